@@ -1,0 +1,4 @@
+-- The curve on the grid: its limits, the tests of the check, and the check's answer.
+pub mod Limits
+pub mod Rows
+pub mod Check

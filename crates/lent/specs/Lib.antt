@@ -1,0 +1,2 @@
+-- What lent result lists hold after a call.
+pub mod Lent

@@ -1,0 +1,1 @@
+// Laws on lent result lists. There is nothing here that runs.
