@@ -1,3 +1,4 @@
--- Arithmetic that the exact curve is stated in: bare operations, and ordered fields over them.
+-- Arithmetic that the exact curve is stated in: bare operations, ordered fields and commutative rings over them.
 pub mod Operations
 pub mod OrderedField
+pub mod Ring

@@ -1,0 +1,5 @@
+-- Laws of rings and ordered fields, and the equation solver.
+pub mod RingLaws
+pub mod Expressions
+pub mod Solver
+pub mod Controls
