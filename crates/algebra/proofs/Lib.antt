@@ -2,4 +2,5 @@
 pub mod RingLaws
 pub mod Expressions
 pub mod Solver
+pub mod FieldLaws
 pub mod Controls
