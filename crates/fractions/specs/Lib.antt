@@ -1,0 +1,3 @@
+-- Fractions as pairs of whole numbers, their arithmetic, and their order by cross-multiplying.
+pub mod Fraction
+pub mod Order
