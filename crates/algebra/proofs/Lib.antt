@@ -3,4 +3,5 @@ pub mod RingLaws
 pub mod Expressions
 pub mod Solver
 pub mod FieldLaws
+pub mod OrderLaws
 pub mod Controls

@@ -31,3 +31,16 @@ pub record OrderedField : Type 1 where
 -- a ≤ b: the difference is at least zero
 abbrev pub AtMost : (F : OrderedField) → F .operations .Number → F .operations .Number → Type 0
 AtMost F a b = F .nonneg (sub (F .operations) b a) ≡ true
+
+-- a < b: b is not at most a, so the difference a - b fails the test
+abbrev pub Below : (F : OrderedField) → F .operations .Number → F .operations .Number → Type 0
+Below F a b = F .nonneg (sub (F .operations) a b) ≡ false
+
+-- the two sides on which a bound can stand
+pub data Side : Type 0 where
+  low high : Side
+
+-- v bounds x: v ≤ x where v stands on the low side, x ≤ v where it stands on the high side
+abbrev pub Bounds : (F : OrderedField) → Side → F .operations .Number → F .operations .Number → Type 0
+Bounds F low v x = AtMost F v x
+Bounds F high v x = AtMost F x v
