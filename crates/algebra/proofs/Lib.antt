@@ -4,4 +4,5 @@ pub mod Expressions
 pub mod Solver
 pub mod FieldLaws
 pub mod OrderLaws
+pub mod QuotientOrder
 pub mod Controls
