@@ -2,10 +2,12 @@
 use mathlib.Core.Path.{_≡_, refl}
 use mathlib.Core.List.{List, [], _∷_}
 use Prim.Native.Nat.{ℕ}
+use lib.IntN.{ℤ, pos, negsuc, _+ℤ_, _-ℤ_, _*ℤ_}
 use Rattle.algebra.specs.Operations.{Operations, sub, div}
 use Rattle.algebra.specs.Ring.{Ring}
 use Rattle.algebra.proofs.Expressions.{E, var, lit, _⊕_, _⊗_, _⊖_, minus, expressions}
 use Rattle.algebra.proofs.Solver.{ring, linear-combination, fact}
+use Rattle.algebra.proofs.IntegerRing.{integerRing}
 
 -- (a + b)² = a² + 2ab + b²
 abbrev square : (O : Operations) (a b : O .Number) → O .Number
@@ -32,3 +34,7 @@ weights-one R w t l h =
   where
     reading : Operations
     reading = expressions ((var 0 ⊖ var 2) ∷ []) 3
+
+-- (x - 2)(x + 3) = x² + x - 6 at integers
+integers-expanded : (x : ℤ) → (x -ℤ pos 2) *ℤ (x +ℤ pos 3) ≡ x *ℤ x +ℤ x +ℤ negsuc 5
+integers-expanded x = ring integerRing (x ∷ []) ((var 0 ⊖ lit 2) ⊗ (var 0 ⊕ lit 3)) (var 0 ⊗ var 0 ⊕ var 0 ⊕ minus (lit 6)) refl

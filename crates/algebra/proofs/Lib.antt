@@ -2,6 +2,7 @@
 pub mod RingLaws
 pub mod Expressions
 pub mod Solver
+pub mod IntegerRing
 pub mod FieldLaws
 pub mod OrderLaws
 pub mod QuotientOrder

@@ -1,7 +1,7 @@
 -- Equations of any commutative ring R, solved by computing: `ring`, and `linear-combination` from facts. How to use it:
 --   `ring R (a ∷ b ∷ []) (var 0 ⊗ var 1) (var 1 ⊗ var 0) refl : a · b ≡ b · a`
 -- The list gives the values of `var 0`, `var 1`, ..; the two expressions are the two sides; `refl` closes it (`false` against
--- `true` in the error says that the equation does not hold). `fieldRing F` is an ordered field's ring.
+-- `true` in the error says that the equation does not hold). `fieldRing F` is an ordered field's ring, `integerRing` that of ℤ.
 -- A formula f that is written over any `Operations` need not be typed again: `f (expressions divisors k) (var 0) ..` is its
 -- expression. There 1 / d is `var k` for the first of `divisors`, `var (k + 1)` for the next: put `inv d` at these places of the list.
 -- A reciprocal needs its fact, with the factor that it is used with:
