@@ -1,11 +1,10 @@
 -- Closed uses of the solver, one of each kind.
 use mathlib.Core.Path.{_≡_, refl}
-use mathlib.Core.List.{List, [], _∷_}
-use Prim.Native.Nat.{ℕ}
+use mathlib.Core.List.{[], _∷_}
 use lib.IntN.{ℤ, pos, negsuc, _+ℤ_, _-ℤ_, _*ℤ_}
 use Rattle.algebra.specs.Operations.{Operations, sub, div}
 use Rattle.algebra.specs.Ring.{Ring}
-use Rattle.algebra.proofs.Expressions.{E, var, lit, _⊕_, _⊗_, _⊖_, minus, expressions}
+use Rattle.algebra.proofs.Expressions.{var, lit, _⊕_, _⊗_, _⊖_, minus, expressions}
 use Rattle.algebra.proofs.Solver.{ring, linear-combination, fact}
 use Rattle.algebra.proofs.IntegerRing.{integerRing}
 

@@ -1,6 +1,6 @@
 -- Expressions of a commutative ring, with variables by number, and their normal form. Nothing here needs a ring:
 -- `norm` computes, and `nil` tests that a normal form has no coefficient other than zero.
-use mathlib.Core.Bool.{Bool, true, false, _&&_, cond}
+use mathlib.Core.Bool.{Bool, false, _&&_, cond}
 use mathlib.Core.List.{List, [], _∷_}
 use Prim.Native.Nat as Nat
 use Prim.Native.Nat.{ℕ, zero, suc}

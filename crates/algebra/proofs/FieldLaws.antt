@@ -3,14 +3,13 @@
 use mathlib.Core.Path.{_≡_, refl, sym, _∙_, ap, subst}
 use mathlib.Core.Logic.{_⊎_, inl, inr}
 use mathlib.Core.Bool.{Bool, true, false, true≢false}
-use mathlib.Core.List.{List, [], _∷_}
-use Prim.Native.Nat.{ℕ}
-use Rattle.algebra.specs.Operations.{Operations, sub, div}
+use mathlib.Core.List.{[], _∷_}
+use Rattle.algebra.specs.Operations.{sub, div}
 use Rattle.algebra.specs.OrderedField.{OrderedField}
 use Rattle.algebra.specs.Ring.{Ring, fieldRing}
 use Rattle.algebra.proofs.RingLaws as Law
-use Rattle.algebra.proofs.Expressions.{E, var, lit, _⊕_, _⊗_, _⊖_, minus, expressions}
-use Rattle.algebra.proofs.Solver.{ring, linear-combination, fact}
+use Rattle.algebra.proofs.Expressions.{var, lit, _⊗_, _⊖_, minus}
+use Rattle.algebra.proofs.Solver.{linear-combination, fact}
 
 module _ (F : OrderedField) where
   infixl 6 _+_

@@ -1,7 +1,7 @@
 -- The integers are a commutative ring: the library has all of the laws but two, that the product is associative and that it
 -- distributes over the sum. Both are carried from zero up and down by one.
-use mathlib.Core.Path.{_≡_, refl, sym, _∙_, ap}
-use Prim.Native.Nat.{ℕ, zero, suc}
+use mathlib.Core.Path.{_≡_, sym, _∙_, ap}
+use Prim.Native.Nat.{zero, suc}
 use lib.IntN.{ℤ, pos, negsuc, negℤ, sucℤ, predℤ, one, _+ℤ_, _*ℤ_, _-ℤ_, sucℤ-+ℤ, predℤ-+ℤ, +ℤ-idl, +ℤ-idr, +ℤ-assoc, +ℤ-comm, +ℤ-invr, +ℤ-invl, zero-*ℤ, *ℤ-comm, *ℤ-one, sucℤ-*ℤ, predℤ-*ℤ}
 use Rattle.algebra.specs.Operations.{Operations}
 use Rattle.algebra.specs.Ring.{Ring}

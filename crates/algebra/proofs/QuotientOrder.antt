@@ -1,19 +1,18 @@
 -- The order of reciprocals, quotients and weighted means in an ordered field, and of sums of ones.
 use mathlib.Core.Path.{_≡_, refl, sym, _∙_, ap, subst}
-use mathlib.Core.Logic.{_⊎_, inl, inr}
-use mathlib.Core.Bool.{Bool, true, false}
-use mathlib.Core.List.{List, [], _∷_}
+use mathlib.Core.Bool.{true}
+use mathlib.Core.List.{[], _∷_}
 use Prim.Native.Nat as Nat
 use Prim.Native.Nat.{ℕ, zero, suc}
 use native.Mathlib.Nat as NatL
 use native.Mathlib.Decide.{decLe}
-use Rattle.algebra.specs.Operations.{Operations, sub, div}
+use Rattle.algebra.specs.Operations.{sub, div}
 use Rattle.algebra.specs.OrderedField.{OrderedField, AtMost, Below, Side, low, high, Bounds}
 use Rattle.algebra.specs.Ring.{Ring, fieldRing, numeral}
 use Rattle.algebra.proofs.RingLaws as Law
 use Rattle.algebra.proofs.FieldLaws as Field
 use Rattle.algebra.proofs.OrderLaws as Order
-use Rattle.algebra.proofs.Expressions.{E, var, lit, _⊕_, _⊗_, _⊖_, minus}
+use Rattle.algebra.proofs.Expressions.{var, lit, _⊕_, _⊗_, _⊖_, minus}
 use Rattle.algebra.proofs.Solver.{ring, linear-combination, fact}
 
 module _ (F : OrderedField) where

@@ -3,7 +3,6 @@ use mathlib.Core.Path.{_≡_, refl, sym, _∙_, ap}
 use Prim.Native.Nat as Nat
 use Prim.Native.Nat.{ℕ, zero, suc}
 use native.Mathlib.Nat as NatL
-use Rattle.algebra.specs.Operations.{Operations}
 use Rattle.algebra.specs.Ring.{Ring, numeral}
 
 module _ (R : Ring) where
