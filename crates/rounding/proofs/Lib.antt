@@ -3,3 +3,8 @@ pub mod RoundError
 pub mod FloatUnits
 pub mod SignedError
 pub mod CellError
+pub mod Ratio
+pub mod CellNear
+pub mod TriangleNear
+pub mod Distance
+pub mod Binary64
