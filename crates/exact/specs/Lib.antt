@@ -1,0 +1,2 @@
+-- The exact point of a curve that is given by lists of whole numbers.
+pub mod ExactPoint
