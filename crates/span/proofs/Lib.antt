@@ -1,0 +1,2 @@
+-- Laws of the span rule.
+pub mod SpanLaws

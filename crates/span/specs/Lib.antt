@@ -1,0 +1,2 @@
+-- The span of a parameter, and the domain.
+pub mod Span

@@ -1,0 +1,2 @@
+-- The computed cell of the triangle.
+pub mod FloatCell
