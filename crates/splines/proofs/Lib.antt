@@ -4,3 +4,4 @@ pub mod SpanLaws
 pub mod BasisLaws
 pub mod TriangleLaws
 pub mod HullLaws
+pub mod HermiteLaws

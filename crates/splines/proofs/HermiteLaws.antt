@@ -1,0 +1,107 @@
+-- A cubic span whose three knots on each side are equal is a Bezier cubic of its carrying numbers; with inner control
+-- numbers a third of a tangent away from the ends it is the Hermite cubic. Both hold at every t.
+-- Others may cite `triangle-is-bezier`, `bezier-is-hermite`, `piece-is-hermite`.
+use mathlib.Core.Path.{_≡_, refl, ap, ap₂, sym, _∙_}
+use mathlib.Core.List.{[], _∷_}
+use Prim.Native.Nat.{ℕ, zero, suc, _+_, _-_, _≤_, _<_}
+use native.Mathlib.Omega.{arith}
+use Rattle.algebra.specs.Operations.{Operations, sub, div}
+use Rattle.algebra.specs.OrderedField.{OrderedField, Below}
+use Rattle.algebra.specs.Ring.{fieldRing, numeral}
+use Rattle.algebra.proofs.Expressions.{var, lit, _⊕_, _⊗_, _⊖_, expressions}
+use Rattle.algebra.proofs.Solver.{ring, linear-combination, fact}
+use Rattle.splines.specs.Basis.{curveAt}
+use Rattle.splines.specs.Triangle.{cell, entry}
+use Rattle.splines.specs.Bezier.{bernstein, bezier, hermiteAt, hermite}
+use Rattle.splines.proofs.SpanLaws.{divisor-inverse}
+use Rattle.splines.proofs.TriangleLaws.{triangle-is-curve}
+
+-- the triangle with knots a and b alone
+casteljau : (O : Operations) (a b : O .Number) (ps : ℕ → O .Number) (t : O .Number) → ℕ → ℕ → O .Number
+casteljau O a b ps t zero j = ps j
+casteljau O a b ps t (suc r) j = cell O b t a (casteljau O a b ps t r (j - 1)) (casteljau O a b ps t r j)
+
+-- three rows of it
+abbrev cells : (O : Operations) (a b t p₀ p₁ p₂ p₃ : O .Number) → O .Number
+cells O a b t p₀ p₁ p₂ p₃ =
+    cell O b t a
+    (cell O b t a (cell O b t a p₀ p₁) (cell O b t a p₁ p₂))
+    (cell O b t a (cell O b t a p₁ p₂) (cell O b t a p₂ p₃))
+
+module _ (F : OrderedField) where
+  open OrderedField F using (operations as O, laws)
+  open Operations O using (Number, add, mul, inv)
+
+  -- the cells are x·left + y·right
+  cells-are-bezier : (a b t p₀ p₁ p₂ p₃ : Number) → cells O a b t p₀ p₁ p₂ p₃ ≡ bezier O a b p₀ p₁ p₂ p₃ t
+  unfolding numeral
+  cells-are-bezier a b t p₀ p₁ p₂ p₃ =
+      ring (fieldRing F) (a ∷ b ∷ t ∷ p₀ ∷ p₁ ∷ p₂ ∷ p₃ ∷ inv (sub O b a) ∷ [])
+      (cells (expressions [] 7) (var 0) (var 1) (var 2) (var 3) (var 4) (var 5) (var 6))
+      (bezier (expressions [] 7) (var 0) (var 1) (var 3) (var 4) (var 5) (var 6) (var 2)) refl
+
+  -- 3·p₁ = 3·p + h·u and 3·p₂ = 3·q - h·v make the Bernstein cubic at 1 - y and y the Hermite cubic at y
+  bernstein-is-hermite : (h y p p₁ p₂ q u v : Number)
+      → mul (numeral O 3) p₁ ≡ add (mul (numeral O 3) p) (mul h u)
+      → mul (numeral O 3) p₂ ≡ sub O (mul (numeral O 3) q) (mul h v)
+      → bernstein O (sub O (O .one) y) y p p₁ p₂ q ≡ hermiteAt O h y p q u v
+  unfolding numeral
+  bernstein-is-hermite h y p p₁ p₂ q u v after before =
+      linear-combination (fieldRing F) (h ∷ y ∷ p ∷ p₁ ∷ p₂ ∷ q ∷ u ∷ v ∷ [])
+      (bernstein (expressions [] 8) (lit 1 ⊖ var 1) (var 1) (var 2) (var 3) (var 4) (var 5))
+      (hermiteAt (expressions [] 8) (var 0) (var 1) (var 2) (var 5) (var 6) (var 7))
+      (fact (var 1 ⊗ ((lit 1 ⊖ var 1) ⊗ (lit 1 ⊖ var 1))) (lit 3 ⊗ var 3) (lit 3 ⊗ var 2 ⊕ var 0 ⊗ var 6)
+      ∷ fact (var 1 ⊗ var 1 ⊗ (lit 1 ⊖ var 1)) (lit 3 ⊗ var 4) (lit 3 ⊗ var 5 ⊖ var 0 ⊗ var 7)
+      ∷ []) (after, (before, tt)) refl
+
+  -- the Bezier cubic of inner control numbers a third of a tangent away from the ends is the Hermite cubic
+  pub bezier-is-hermite : (a b t p p₁ p₂ q u v : Number) → Below F a b
+      → mul (numeral O 3) p₁ ≡ add (mul (numeral O 3) p) (mul (sub O b a) u)
+      → mul (numeral O 3) p₂ ≡ sub O (mul (numeral O 3) q) (mul (sub O b a) v)
+      → bezier O a b p p₁ p₂ q t ≡ hermite O a b p q u v t
+  bezier-is-hermite a b t p p₁ p₂ q u v some after before =
+      ap (λ x. bernstein O x (div O (sub O t a) (sub O b a)) p p₁ p₂ q) rest
+      ∙ bernstein-is-hermite (sub O b a) (div O (sub O t a) (sub O b a)) p p₁ p₂ q u v after before
+    where
+      rest : div O (sub O b t) (sub O b a) ≡ sub O (O .one) (div O (sub O t a) (sub O b a))
+      rest =
+          linear-combination (fieldRing F) (a ∷ b ∷ t ∷ inv (sub O b a) ∷ [])
+          ((var 1 ⊖ var 2) ⊗ var 3) (lit 1 ⊖ (var 2 ⊖ var 0) ⊗ var 3)
+          (fact (lit 1) ((var 1 ⊖ var 0) ⊗ var 3) (lit 1) ∷ []) (divisor-inverse F a b some, tt) refl
+
+  module _ (ts ps : ℕ → Number) (i m : ℕ) (a b t : Number) (mi : m ≤ i)
+      (starts : (j : ℕ) → j ≤ i → i < j + m → ts j ≡ a) (ends : (j : ℕ) → i < j → j ≤ i + m → ts j ≡ b) where
+    entry-is-casteljau : (r j : ℕ) → r ≤ m → i + r ≤ j + m → j ≤ i → entry O ts ps m t r j ≡ casteljau O a b ps t r j
+    unfolding entry casteljau
+    entry-is-casteljau zero j h k l = refl
+    entry-is-casteljau (suc r) j h k l =
+        ap₂ (λ w low. cell O w t low (entry O ts ps m t r (j - 1)) (entry O ts ps m t r j))
+        (ends (j + m - r) (omega arith) (omega arith)) (starts j l (omega arith))
+        ∙ ap₂ (cell O b t a)
+        (entry-is-casteljau r (j - 1) (omega arith) (omega arith) (omega arith))
+        (entry-is-casteljau r j (omega arith) (omega arith) l)
+
+  module _ (ts ps : ℕ → Number) (i : ℕ) (a b t : Number) (full : 3 ≤ i)
+      (starts : (j : ℕ) → j ≤ i → i < j + 3 → ts j ≡ a) (ends : (j : ℕ) → i < j → j ≤ i + 3 → ts j ≡ b) where
+    pub triangle-is-bezier : entry O ts ps 3 t 3 i ≡ bezier O a b (ps (i - 3)) (ps (i - 2)) (ps (i - 1)) (ps i) t
+    unfolding casteljau
+    triangle-is-bezier =
+        entry-is-casteljau ts ps i 3 a b t full starts ends 3 i (omega arith) (omega arith) (omega arith)
+        ∙ ap₂ (λ x y. cells O a b t (ps x) (ps y) (ps (i - 1)) (ps i)) third second
+        ∙ cells-are-bezier a b t (ps (i - 3)) (ps (i - 2)) (ps (i - 1)) (ps i)
+      where
+        third : i - 1 - 1 - 1 ≡ i - 3
+        third = omega arith
+
+        second : i - 1 - 1 ≡ i - 2
+        second = omega arith
+
+    -- the curve on such a span, from its ends and tangents
+    pub piece-is-hermite : (count : ℕ) → i < count → (u v : Number) → Below F a b
+        → mul (numeral O 3) (ps (i - 2)) ≡ add (mul (numeral O 3) (ps (i - 3))) (mul (sub O b a) u)
+        → mul (numeral O 3) (ps (i - 1)) ≡ sub O (mul (numeral O 3) (ps i)) (mul (sub O b a) v)
+        → curveAt O ts ps 3 count i t ≡ hermite O a b (ps (i - 3)) (ps i) u v t
+    piece-is-hermite count inside u v some after before =
+        sym (triangle-is-curve F ts t i count inside ps 3 full)
+        ∙ triangle-is-bezier
+        ∙ bezier-is-hermite a b t (ps (i - 3)) (ps (i - 2)) (ps (i - 1)) (ps i) u v some after before

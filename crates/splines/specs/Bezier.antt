@@ -1,0 +1,48 @@
+-- A cubic over the interval from a to b (heading "Joining spline points"; source document 000, sections 2 and 3): by four
+-- control numbers, and by its values p, q and tangents u, v at the two ends.
+use Rattle.algebra.specs.Operations.{Operations, sub, div}
+use Rattle.algebra.specs.Ring.{numeral}
+
+-- x³·p₀ + 3·y·x²·p₁ + 3·y²·x·p₂ + y³·p₃
+abbrev pub bernstein : (O : Operations) (x y p₀ p₁ p₂ p₃ : O .Number) → O .Number
+bernstein O x y p₀ p₁ p₂ p₃ =
+    O .add
+    (O .add
+    (O .add (O .mul (O .mul x (O .mul x x)) p₀) (O .mul (O .mul (numeral O 3) (O .mul y (O .mul x x))) p₁))
+    (O .mul (O .mul (numeral O 3) (O .mul (O .mul y y) x)) p₂))
+    (O .mul (O .mul y (O .mul y y)) p₃)
+
+-- the Bezier cubic: x is (b - t)/(b - a) and y is (t - a)/(b - a)
+abbrev pub bezier : (O : Operations) (a b p₀ p₁ p₂ p₃ t : O .Number) → O .Number
+bezier O a b p₀ p₁ p₂ p₃ t = bernstein O (div O (sub O b t) (sub O b a)) (div O (sub O t a) (sub O b a)) p₀ p₁ p₂ p₃
+
+-- F1 of source document 000: 2·y³ - 3·y² + 1
+abbrev pub startWeight : (O : Operations) (y : O .Number) → O .Number
+startWeight O y =
+    O .add (sub O (O .mul (numeral O 2) (O .mul y (O .mul y y))) (O .mul (numeral O 3) (O .mul y y))) (O .one)
+
+-- F2: -2·y³ + 3·y²
+abbrev pub endWeight : (O : Operations) (y : O .Number) → O .Number
+endWeight O y = O .add (O .neg (O .mul (numeral O 2) (O .mul y (O .mul y y)))) (O .mul (numeral O 3) (O .mul y y))
+
+-- F3: y·(y² - 2·y + 1)·h, where h is the interval's width
+abbrev pub startTangentWeight : (O : Operations) (h y : O .Number) → O .Number
+startTangentWeight O h y =
+    O .mul (O .mul y (O .add (sub O (O .mul y y) (O .mul (numeral O 2) y)) (O .one))) h
+
+-- F4: y·(y² - y)·h
+abbrev pub endTangentWeight : (O : Operations) (h y : O .Number) → O .Number
+endTangentWeight O h y = O .mul (O .mul y (sub O (O .mul y y) y)) h
+
+-- the four weights' sum at y
+abbrev pub hermiteAt : (O : Operations) (h y p q u v : O .Number) → O .Number
+hermiteAt O h y p q u v =
+    O .add
+    (O .add
+    (O .add (O .mul (startWeight O y) p) (O .mul (endWeight O y) q))
+    (O .mul (startTangentWeight O h y) u))
+    (O .mul (endTangentWeight O h y) v)
+
+-- the Hermite cubic: y is (t - a)/(b - a)
+abbrev pub hermite : (O : Operations) (a b p q u v t : O .Number) → O .Number
+hermite O a b p q u v t = hermiteAt O (sub O b a) (div O (sub O t a) (sub O b a)) p q u v
