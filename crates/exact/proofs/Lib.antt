@@ -2,3 +2,5 @@
 pub mod Controls
 pub mod Homomorphism
 pub mod ExactLaws
+pub mod SpanLaws
+pub mod HullLaws

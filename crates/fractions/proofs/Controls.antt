@@ -1,6 +1,6 @@
 -- Closed cases of the arithmetic and the order of fractions, against values worked by hand.
-use mathlib.Core.Path.{_≡_, refl}
-use lib.IntN.{pos, negsuc, negℤ}
+use mathlib.Core.Path.{refl}
+use lib.IntN.{pos, negsuc}
 use Rattle.fractions.specs.Fraction.{Fraction, over, whole, sum, product, negation, turned, reciprocal}
 use Rattle.fractions.specs.Order.{Equals, AtMost, Below, DistanceBelow}
 

@@ -2,15 +2,16 @@
 -- hold up to it. Each comes down to an equation of sums of products of integers.
 use mathlib.Core.Path.{_≡_, refl, sym, _∙_, ap, ap₂}
 use mathlib.Core.Bool.{true≢false, false≢true}
-use Prim.Native.Nat.{ℕ, zero, suc, _+_, _*_, _-_, _<_, _≤_}
+use Prim.Native.Nat.{ℕ, zero, suc, _+_, _*_, _-_, _<_}
 use native.Mathlib.Nat as NatL
 use native.Mathlib.Nat.{mul-comm, zero-mul}
 use native.Mathlib.Omega.{arith}
-use lib.IntN.{ℤ, pos, negsuc, negℤ, natAbs, one, _+ℤ_, _*ℤ_, +ℤ-assoc, +ℤ-comm, +ℤ-idl, +ℤ-idr, +ℤ-invr, *ℤ-comm, *ℤ-one, zero-*ℤ, *ℤ-zero}
+use lib.IntN.{ℤ, pos, negsuc, negℤ, natAbs, _+ℤ_, _*ℤ_, +ℤ-idl, +ℤ-invr, zero-*ℤ, *ℤ-zero}
 use lib.Signed.{nonNeg}
 use Rattle.fractions.specs.Fraction.{Fraction, lower, over, whole, sum, product, negation, turned, reciprocal}
 use Rattle.fractions.specs.Order.{Equals}
-use Rattle.fractions.proofs.IntegerLaws.{integer-rules, mul-assoc, mul-one, one-mul, neg-mul}
+use Rattle.algebra.proofs.IntegerRing.{mul-one}
+use Rattle.fractions.proofs.IntegerLaws.{integer-rules, one-mul, neg-mul}
 use Rattle.fractions.proofs.SignLaws.{product-suc, none-above, mul-cancel, signs-of, sizes-of}
 
 -- the lower number as an integer

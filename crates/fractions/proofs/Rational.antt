@@ -1,15 +1,14 @@
 -- The rational numbers: fractions up to equality by cross-multiplying, so that equal fractions are one number. They are an
 -- ordered field, and taking a fraction's class carries every operation over.
-use mathlib.Core.Path.{_≡_, refl, sym, _∙_, ap}
+use mathlib.Core.Path.{_≡_, refl, sym, ap}
 use mathlib.Core.Bool.{Bool, true, false, Bool-set, true≢false, false≢true}
-use mathlib.Core.Logic.{_↔_}
 use mathlib.Core.HLevel.{Π-prop}
 use mathlib.Core.Quot.{Quot, Quot·mk, Quot·sound, Quot·lift, Quot-set, ind, Setoid, Quotient·lift₂, Quotient·exact}
 use Prim.Native.Nat.{ℕ, zero, suc}
 use native.Mathlib.Omega.{arith}
 use lib.IntN.{ℤ, pos, negsuc, negℤ, natAbs, ℤ-set, _+ℤ_, _*ℤ_}
 use lib.Signed.{nonNeg}
-use Rattle.algebra.specs.Operations.{Operations, sub}
+use Rattle.algebra.specs.Operations.{Operations}
 use Rattle.algebra.specs.OrderedField.{OrderedField, IsOrderedField}
 use Rattle.fractions.specs.Fraction.{Fraction, lower, whole, sum, product, negation, turned, reciprocal}
 use Rattle.fractions.specs.Order.{Equals}

@@ -3,11 +3,11 @@
 use mathlib.Core.Path.{_≡_, refl, sym, _∙_, ap}
 use mathlib.Core.Bool.{Bool, true, false, not, cond, true≢false, false≢true}
 use Prim.Native.Nat.{ℕ, zero, suc, _+_, _*_, _-_, _/_, _<_, _≤_}
-use native.Mathlib.Nat.{suc-mul, mul-suc, add-suc, suc-inj, mul-div-cancel, zero-mul}
+use native.Mathlib.Nat.{suc-mul, add-suc, suc-inj, mul-div-cancel}
 use native.Mathlib.Omega.{arith}
 use lib.Dec.{T, leb, ltb, leb·zero, leb·suc-zero, leb·suc-suc, leb→le, le→leb, ltb→lt, nltb→le}
 use lib.Arith.{lt→nleb}
-use lib.IntN.{ℤ, pos, negsuc, negℤ, natAbs, subℕ, _+ℤ_, _*ℤ_, _-ℤ_}
+use lib.IntN.{ℤ, pos, negsuc, negℤ, natAbs, subℕ, _*ℤ_, _-ℤ_}
 use lib.Signed.{nonNeg, leZ, ltZ}
 
 pub true-of : (b : Bool) → T b → b ≡ true

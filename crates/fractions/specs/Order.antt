@@ -4,6 +4,7 @@ use mathlib.Core.Path.{_≡_}
 use lib.IntN.{ℤ, pos, _*ℤ_}
 use lib.Signed.{_≤ℤ_, _<ℤ_}
 use Rattle.algebra.specs.Operations.{sub}
+use Rattle.algebra.specs.OrderedField.{Side, low, high}
 use Rattle.fractions.specs.Fraction.{Fraction, lower, fractionOperations}
 
 -- the upper number of one fraction times the lower of the other
@@ -21,6 +22,11 @@ AtMost a b = crossed a b ≤ℤ crossed b a
 -- p/q < r/s: p·s < r·q
 abbrev pub Below : Fraction → Fraction → Type 0
 Below a b = crossed a b <ℤ crossed b a
+
+-- v bounds x: v ≤ x where v stands on the low side, x ≤ v where it stands on the high side
+abbrev pub Bounds : Side → Fraction → Fraction → Type 0
+Bounds low v x = AtMost v x
+Bounds high v x = AtMost x v
 
 -- |a - b| < c: both a - b and b - a are below c
 pub record DistanceBelow (a b c : Fraction) : Type 0 where
