@@ -1,0 +1,5 @@
+-- Laws of the check's tests.
+pub mod CountLaws
+pub mod OrderLaws
+pub mod EntryLaws
+pub mod RepeatLaws

@@ -1,0 +1,66 @@
+// Rows 7 and 14: coordinates and sides on the grid.
+ghost use mathlib.Core.Path.{_≡_};
+ghost use lib.Signed.{leZ};
+ghost use Rattle.grid.specs.Rows.{onGrid, allOnGrid, rangeOk, rectangleOk};
+
+// z is on the grid.
+pub fn on_grid(z: i32) -> bool
+    ensures answer { λ r. ⌜ r ≡ onGrid z ⌝ }
+{
+    if -crate::COORDINATE_MOST <= z {
+        return z <= crate::COORDINATE_MOST;
+    }
+    false
+}
+
+// Neither low side lies above its high side, and all four are on the grid.
+pub fn sides_ok(low_x: i32, high_x: i32, low_y: i32, high_y: i32) -> bool
+    ensures answer { λ r. ⌜ r ≡ rectangleOk «low_x» «high_x» «low_y» «high_y» ⌝ }
+{
+    if !rises(low_x, high_x) {
+        return false;
+    }
+    if !rises(low_y, high_y) {
+        return false;
+    }
+    if !on_grid(low_x) {
+        return false;
+    }
+    if !on_grid(high_x) {
+        return false;
+    }
+    if !on_grid(low_y) {
+        return false;
+    }
+    on_grid(high_y)
+}
+
+// low is not above high.
+fn rises(low: i32, high: i32) -> bool
+    ensures answer { λ r. ⌜ r ≡ leZ low high ⌝ }
+{
+    low <= high
+}
+
+pub(crate) fn range_ok(xs: &[i32], ys: &[i32]) -> bool
+    ensures answer { λ r. ⌜ r ≡ rangeOk (now (xs .entry)) (now (ys .entry)) ⌝ }
+{
+    if !all_on_grid(xs) {
+        return false;
+    }
+    all_on_grid(ys)
+}
+
+fn all_on_grid(zs: &[i32]) -> bool
+    ensures answer { λ r. ⌜ r ≡ allOnGrid (now (zs .entry)) ⌝ }
+{
+    let mut i = 0;
+    while i < zs.len() {
+        let z = zs[i];
+        if !on_grid(z) {
+            return false;
+        }
+        i += 1;
+    }
+    true
+}

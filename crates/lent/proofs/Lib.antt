@@ -1,0 +1,2 @@
+-- Laws on lists that are lent.
+pub mod ListLaws
