@@ -6,11 +6,12 @@ use native.Mathlib.Nat.{le-trans, lt-of-le-of-lt, mul-le-mul-right}
 use lib.IntN.{ℤ, pos}
 use lib.Dec.{lit≤, lit<}
 use lib.Ieee.{Float, binary64, low}
-use Rattle.rounding.specs.FloatCell.{floatCell}
+use Rattle.triangle.specs.FloatCell.{floatCell}
 use Rattle.rounding.proofs.CellError.{Room, cellIn}
 use Rattle.rounding.proofs.Ratio.{Ratio}
 use Rattle.rounding.proofs.TriangleNear.{Triangle, EntryNear, exactEntry, triangle-near}
 use Rattle.rounding.proofs.Distance.{Apart, near-apart}
+use Rattle.rounding.proofs.CellScale.{Sized, cell-scaled}
 
 -- the bound on coordinates and the largest difference (a knot difference counted in 256ths)
 abbrev pub largestCoordinate : ℕ
@@ -40,3 +41,8 @@ triangle-apart first last left right zs entries t r j R l h =
     triangle-near binary64 largestSize largestDifference rowError largestCoordinate 3 first last left right zs entries binary64-room (lit≤ tt) (lit≤ tt) t r j R l h in
     near-apart binary64 (r * rowError) (2 ^ 30) (entries r j) (exactEntry left right zs r j)
     (lt-of-le-of-lt (mul-le-mul-right (2 ^ 30) (mul-le-mul-right rowError R)) (lit< tt)) (e .bounded .above-zero) (e .near)
+
+-- differences counted in 256ths leave the cell's bits as they are
+pub cell-in-256ths : (a b : ℕ) (l r : Float) → 0 < a + b → (a + b) * 256 ≤ largestDifference → Sized binary64 largestSize l → Sized binary64 largestSize r
+    → floatCell (pos (a * 256)) (pos (b * 256)) (pos ((a + b) * 256)) l r ≡ floatCell (pos a) (pos b) (pos (a + b)) l r
+cell-in-256ths a b l r P A L R = cell-scaled binary64 largestSize largestDifference rowError a b 8 l r binary64-room (lit< tt) P A L R

@@ -23,7 +23,7 @@ pub record Near (f : Format) (e : ℕ) (x : Float) (q : Ratio) : Type 0 where
   pub close : Close (plus sign size * q .under) (minus sign size * q .under) (q .more * 2 ^ low f) (q .less * 2 ^ low f) (e * q .under)
 
 -- ---- a number that is near a bounded one is bounded
-size-bound : (s : Bool) (u C U e g h k M : ℕ) → 0 < k → g ≤ h + C * k → h ≤ g + C * k → Close (plus s u * k) (minus s u * k) (g * U) (h * U) (e * k) → C * U + e ≤ M → u ≤ M
+pub size-bound : (s : Bool) (u C U e g h k M : ℕ) → 0 < k → g ≤ h + C * k → h ≤ g + C * k → Close (plus s u * k) (minus s u * k) (g * U) (h * U) (e * k) → C * U + e ≤ M → u ≤ M
 size-bound true u C U e g h k M K hi lo c m =
     let b : h * U ≤ (g + C * k) * U = mul-le-mul-right U lo in
     let n : (C * U + e) * k ≤ M * k = mul-le-mul-right k m in

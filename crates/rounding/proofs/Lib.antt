@@ -8,3 +8,5 @@ pub mod CellNear
 pub mod TriangleNear
 pub mod Distance
 pub mod Binary64
+pub mod CellScale
+pub mod Controls

@@ -1,3 +1,2 @@
--- The computed cell of the triangle, and a binary64 number as a fraction.
-pub mod FloatCell
+-- A binary64 number as a fraction.
 pub mod FloatFraction

@@ -1,1 +1,1 @@
-// One cell of the triangle in binary64, the fraction that a float is, and how far rounding moves a cell. There is nothing here that runs.
+// The fraction that a float is, and how far rounding moves a cell of the triangle. There is nothing here that runs.
