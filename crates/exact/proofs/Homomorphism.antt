@@ -32,7 +32,8 @@ module _ (O P : Operations) (h : O .Number → P .Number) (kept : IsHomomorphism
   choice-kept true = kept .one-kept
   choice-kept false = kept .zero-kept
 
-  pub basis-kept : (ts : ℕ → O .Number) (i : ℕ) (t : O .Number) (r j : ℕ) → h (basis O ts i t r j) ≡ basis P (λ k. h (ts k)) i (h t) r j
+  pub basis-kept : (ts : ℕ → O .Number) (i : ℕ) (t : O .Number) (r j : ℕ)
+      → h (basis O ts i t r j) ≡ basis P (λ k. h (ts k)) i (h t) r j
   unfolding basis
   basis-kept ts i t zero j = choice-kept (eqb j i)
   basis-kept ts i t (suc r) j =
@@ -58,7 +59,8 @@ module _ (O P : Operations) (h : O .Number → P .Number) (kept : IsHomomorphism
   sumOf-kept f g each zero = kept .zero-kept
   sumOf-kept f g each (suc count) = kept .add-kept (sumOf O f count) (f count) ∙ ap₂ (P .add) (sumOf-kept f g each count) (each count)
 
-  pub curveAt-kept : (ts ps : ℕ → O .Number) (m count i : ℕ) (t : O .Number) → h (curveAt O ts ps m count i t) ≡ curveAt P (λ k. h (ts k)) (λ k. h (ps k)) m count i (h t)
+  pub curveAt-kept : (ts ps : ℕ → O .Number) (m count i : ℕ) (t : O .Number)
+      → h (curveAt O ts ps m count i t) ≡ curveAt P (λ k. h (ts k)) (λ k. h (ps k)) m count i (h t)
   unfolding curveAt
   curveAt-kept ts ps m count i t =
       sumOf-kept (λ j. O .mul (basis O ts i t m j) (ps j)) (λ j. P .mul (basis P (λ k. h (ts k)) i (h t) m j) (h (ps j)))
@@ -72,7 +74,8 @@ module _ (O P : Operations) (h : O .Number → P .Number) (kept : IsHomomorphism
       ∙ ap₂ (P .add) (kept .mul-kept (sub O w t) left ∙ ap (λ x. P .mul x (h left)) (sub-kept w t)) (kept .mul-kept (sub O t low) right ∙ ap (λ x. P .mul x (h right)) (sub-kept t low)))
       (sub-kept w low)
 
-  pub entry-kept : (ts ps : ℕ → O .Number) (m : ℕ) (t : O .Number) (r j : ℕ) → h (entry O ts ps m t r j) ≡ entry P (λ k. h (ts k)) (λ k. h (ps k)) m (h t) r j
+  pub entry-kept : (ts ps : ℕ → O .Number) (m : ℕ) (t : O .Number) (r j : ℕ)
+      → h (entry O ts ps m t r j) ≡ entry P (λ k. h (ts k)) (λ k. h (ps k)) m (h t) r j
   unfolding entry
   entry-kept ts ps m t zero j = refl
   entry-kept ts ps m t (suc r) j =

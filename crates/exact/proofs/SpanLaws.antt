@@ -20,7 +20,8 @@ use Rattle.splines.specs.Span.{Rising, InSpan}
 use Rattle.exact.proofs.ExactLaws.{rationalKnot, rationalParameter}
 
 -- numbers none of which falls below the one before it never fall
-pub rising-of-neighbours : (f : ℕ → ℕ) (last : ℕ) → ((k : ℕ) → k < last → f k ≤ f (suc k)) → (a b : ℕ) → a ≤ b → b ≤ last → f a ≤ f b
+pub rising-of-neighbours : (f : ℕ → ℕ) (last : ℕ) → ((k : ℕ) → k < last → f k ≤ f (suc k))
+    → (a b : ℕ) → a ≤ b → b ≤ last → f a ≤ f b
 rising-of-neighbours f last step a zero ab bl = le-of-eq (ap f none)
   where
     none : a ≡ zero
@@ -32,7 +33,8 @@ rising-of-neighbours f last step a (suc b) ab bl = on (λ h. rising-of-neighbour
     on before (no h) = le-of-eq (ap f (omega arith))
 
 -- knots of a list that never fall up to the index `last`
-pub knots-rising : (ts : List ℕ) (last : ℕ) → ((a b : ℕ) → a ≤ b → b ≤ last → getD ts a 0 ≤ getD ts b 0) → Rising rational (rationalKnot ts) last
+pub knots-rising : (ts : List ℕ) (last : ℕ) → ((a b : ℕ) → a ≤ b → b ≤ last → getD ts a 0 ≤ getD ts b 0)
+    → Rising rational (rationalKnot ts) last
 knots-rising ts last rises a b ab bl = wholeN-at-most (getD ts a 0) (getD ts b 0) .0 (rises a b ab bl)
 
 -- t ≤ p/q exactly when t·q ≤ p

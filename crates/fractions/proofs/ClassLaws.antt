@@ -59,7 +59,9 @@ class-at-most a b = (
 
 pub class-below : (a b : Fraction) → Below a b ↔ Field.Below rational (class a) (class b)
 class-below a b = (
-  λ h. class-sign b a ∙ not-true (leZ (crossed b a) (crossed a b)) (sym (ltZ-not (crossed a b) (crossed b a)) ∙ true-of (ltZ (crossed a b) (crossed b a)) (h .lt)),
+  λ h. class-sign b a
+      ∙ not-true (leZ (crossed b a) (crossed a b))
+      (sym (ltZ-not (crossed a b) (crossed b a)) ∙ true-of (ltZ (crossed a b) (crossed b a)) (h .lt)),
   λ h. record { lt = holds-of (ltZ (crossed a b) (crossed b a)) (ltZ-not (crossed a b) (crossed b a) ∙ ap not (sym (class-sign b a) ∙ h)) },
 )
   where
@@ -73,7 +75,8 @@ class-bounds Field.high v x = class-at-most x v
 
 -- |a - b| < c: both a - b and b - a are below c
 pub class-distance : (a b c : Fraction) → DistanceBelow a b c
-    ↔ (Field.Below rational (sub rationalOperations (class a) (class b)) (class c) × Field.Below rational (sub rationalOperations (class b) (class a)) (class c))
+    ↔ (Field.Below rational (sub rationalOperations (class a) (class b)) (class c)
+    × Field.Below rational (sub rationalOperations (class b) (class a)) (class c))
 unfolding plus minus Quotient·lift₂
 class-distance a b c = (
   λ h. (class-below (sub fractionOperations a b) c .0 (h .above), class-below (sub fractionOperations b a) c .0 (h .under)),

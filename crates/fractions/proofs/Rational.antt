@@ -67,7 +67,9 @@ at-classes f g h x = ind (λ q. ℚ-set (f q) (g q)) h x
 at-classes₂ : (f g : ℚ → ℚ → ℚ) → ((a b : Fraction) → f (class a) (class b) ≡ g (class a) (class b)) → (x y : ℚ) → f x y ≡ g x y
 at-classes₂ f g h x y = ind (λ q. ℚ-set (f q y) (g q y)) (λ a. at-classes (f (class a)) (g (class a)) (h a) y) x
 
-at-classes₃ : (f g : ℚ → ℚ → ℚ → ℚ) → ((a b c : Fraction) → f (class a) (class b) (class c) ≡ g (class a) (class b) (class c)) → (x y z : ℚ) → f x y z ≡ g x y z
+at-classes₃ : (f g : ℚ → ℚ → ℚ → ℚ)
+    → ((a b c : Fraction) → f (class a) (class b) (class c) ≡ g (class a) (class b) (class c))
+    → (x y z : ℚ) → f x y z ≡ g x y z
 at-classes₃ f g h x y z = ind (λ q. ℚ-set (f q y z) (g q y z)) (λ a. at-classes₂ (f (class a)) (g (class a)) (h a) y z) x
 
 plus-assoc : (x y z : ℚ) → plus (plus x y) z ≡ plus x (plus y z)
@@ -115,7 +117,9 @@ times-inverse = at-class (λ q. (q ≡ class (whole (pos 0)) → ⊥) → times 
 -- ---- the sign
 
 -- an operation that keeps the numbers at least zero does so if it does at fractions
-notNegative-kept : (f : ℚ → ℚ → ℚ) → ((a b : Fraction) → nonNeg (a .upper) ≡ true → nonNeg (b .upper) ≡ true → notNegative (f (class a) (class b)) ≡ true) → (x y : ℚ) → notNegative x ≡ true → notNegative y ≡ true → notNegative (f x y) ≡ true
+notNegative-kept : (f : ℚ → ℚ → ℚ)
+    → ((a b : Fraction) → nonNeg (a .upper) ≡ true → nonNeg (b .upper) ≡ true → notNegative (f (class a) (class b)) ≡ true)
+    → (x y : ℚ) → notNegative x ≡ true → notNegative y ≡ true → notNegative (f x y) ≡ true
 unfolding notNegative
 notNegative-kept f h x y = at-class (λ p. notNegative p ≡ true → notNegative y ≡ true → notNegative (f p y) ≡ true)
     (λ p. Π-prop (λ g. Π-prop (λ k. Bool-set (notNegative (f p y)) true)))
