@@ -5,3 +5,6 @@ pub mod BasisLaws
 pub mod TriangleLaws
 pub mod HullLaws
 pub mod HermiteLaws
+pub mod CellLaws
+pub mod InsertedLaws
+pub mod InsertionLaws
