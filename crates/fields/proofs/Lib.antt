@@ -1,0 +1,3 @@
+-- Laws of numbers, lists and fields in bytes.
+pub mod TwosLaws
+pub mod PlaceLaws

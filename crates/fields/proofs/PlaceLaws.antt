@@ -1,0 +1,108 @@
+-- Laws of bytes put at a place and of entries read from a place on, over any entry and its width.
+use mathlib.Core.Path.{_≡_, refl, sym, ap, _∙_}
+use mathlib.Core.List.{List, [], _∷_, _++_, append-assoc, append-nil}
+use Prim.Native.Nat.{ℕ, zero, suc, _+_, _*_, _<_, _≤_}
+use native.Mathlib.Nat.{add-zero, add-assoc, add-comm, mul-zero, mul-suc, mul-le-mul-left}
+use native.Mathlib.Numerals.{add-one}
+use native.Mathlib.Omega.{arith}
+use lib.ListN.{length, getD, take, drop, set, length-append, length-drop, take-append-drop}
+use lib.Seq.{take-at, drop-drop, drop-append-add, drop-cons, take-suc, length-take-le, set-at, append-snoc}
+use Rattle.lent.specs.Lent.{over}
+use Rattle.fields.specs.Bytes.{each}
+use Rattle.fields.specs.Places.{entriesAt, putAt}
+
+module _ {A : Type 0} where
+  -- nothing put is nothing changed
+  pub putAt-nil : (before : List A) (at : ℕ) → before ≡ putAt before at []
+  putAt-nil before at = rw (add-zero, append-nil, take-append-drop)
+
+  -- what was put, with what stands before it
+  length-front : (before part : List A) (at : ℕ) → at ≤ length before → length (take at before ++ part) ≡ at + length part
+  length-front before part at h = length-append (take at before) part ∙ ap (λ (k : ℕ). k + length part) (length-take-le at before h)
+
+  -- two parts put one after the other are their join put at once
+  pub putAt-join : (before : List A) (at : ℕ) (a b : List A) → at + length a + length b ≤ length before
+      → putAt (putAt before at a) (at + length a) b ≡ putAt before at (a ++ b)
+  putAt-join before at a b h =
+      let front : List A = take at before ++ a in
+      let rest : List A = drop (at + length a) before in
+      let inside : at ≤ length before = omega arith in
+      let size : length front ≡ at + length a = length-front before a at inside in
+      let taken : take (at + length a) (front ++ rest) ≡ front = take-at front rest (at + length a) size in
+      let left : drop (at + length a + length b) (front ++ rest) ≡ drop (at + length a + length b) before =
+      ap (λ (k : ℕ). drop (k + length b) (front ++ rest)) (sym size) ∙ drop-append-add front rest (length b) ∙ drop-drop (length b) (at + length a) before in
+      ap (λ (l : List A). l ++ b ++ drop (at + length a + length b) (front ++ rest)) taken
+      ∙ ap (λ (l : List A). front ++ b ++ l) left
+      ∙ simp (append-assoc, length-append, add-assoc)
+
+  -- a list keeps its length under a part that is put within it
+  pub length-putAt : (before : List A) (at : ℕ) (part : List A) → at + length part ≤ length before → length (putAt before at part) ≡ length before
+  length-putAt before at part h =
+      let inside : at ≤ length before = omega arith in
+      simp (length-append, length-drop, length-take-le at before inside) (omega arith)
+
+  -- one entry more at the end of a result
+  pub over-more : (result before : List A) (v : A) (i : ℕ) → length result ≡ i → i < length before
+      → set (over result before) i v ≡ over (result ++ (v ∷ [])) before
+  over-more result before v i e h =
+      ap (λ (l : List A). set (result ++ l) i v) (ap (λ (k : ℕ). drop k before) e ∙ drop-cons before i v h)
+      ∙ set-at result (getD before i v) (drop (suc i) before) v i e
+      ∙ sym (append-snoc result v (drop (suc i) before))
+      ∙ ap (λ (k : ℕ). result ++ (v ∷ []) ++ drop k before) (sym (length-append result (v ∷ []) ∙ add-one (length result) ∙ ap suc e))
+
+module _ {A : Type 0} (read : ℕ → A) (width : ℕ) where
+  pub length-entriesAt : (at count : ℕ) → length (entriesAt read width at count) ≡ count
+  length-entriesAt at zero = refl
+  length-entriesAt at (suc count) = ap suc (length-entriesAt (at + width) count)
+
+  -- one entry more is the one that stands behind them all
+  pub entriesAt-more : (at count : ℕ) → entriesAt read width at (suc count) ≡ entriesAt read width at count ++ (read (at + width * count) ∷ [])
+  entriesAt-more at zero = simp (mul-zero, add-zero)
+  entriesAt-more at (suc count) =
+      let place : at + width + width * count ≡ at + width * suc count = omega (arith, mul-suc width count) in
+      ap (λ (l : List A). read at ∷ l) (entriesAt-more (at + width) count)
+      ∙ ap (λ (k : ℕ). read at ∷ (entriesAt read width (at + width) count ++ (read k ∷ []))) place
+
+module _ {A : Type 0} (bytesOf : A → List ℕ) (width : ℕ) (wide : (x : A) → length (bytesOf x) ≡ width) where
+  pub length-each : (xs : List A) → length (each bytesOf xs) ≡ width * length xs
+  length-each [] = sym (mul-zero width)
+  length-each (x ∷ xs) =
+      length-append (bytesOf x) (each bytesOf xs)
+      ∙ ap (λ (k : ℕ). k + length (each bytesOf xs)) (wide x)
+      ∙ ap (λ (k : ℕ). width + k) (length-each xs)
+      ∙ simp (mul-suc, add-comm)
+
+  pub each-append : (xs ys : List A) → each bytesOf (xs ++ ys) ≡ each bytesOf xs ++ each bytesOf ys
+  each-append [] ys = refl
+  each-append (x ∷ xs) ys = ap (λ (l : List ℕ). bytesOf x ++ l) (each-append xs ys) ∙ sym (append-assoc (bytesOf x) (each bytesOf xs) (each bytesOf ys))
+
+  -- a turn of the loop that puts entries: the next one's bytes behind those of the entries before it
+  pub put-turn : (before now : List ℕ) (at i place : ℕ) (xs : List A) (z : A) → i < length xs → at + width * length xs ≤ length before
+      → place ≡ at + width * i → now ≡ putAt before at (each bytesOf (take i xs))
+      → putAt now place (bytesOf (getD xs i z)) ≡ putAt before at (each bytesOf (take (i + 1) xs))
+  put-turn before now at i place xs z h room e k =
+      let x : A = getD xs i z in
+      let written : List ℕ = each bytesOf (take i xs) in
+      let size : length written ≡ width * i = length-each (take i xs) ∙ ap (λ (l : ℕ). width * l) (length-take-le i xs (omega arith)) in
+      let more : width * suc i ≤ width * length xs = mul-le-mul-left width h in
+      let step : width * suc i ≡ width * i + width = mul-suc width i in
+      let fits : at + length written + length (bytesOf x) ≤ length before = omega (arith, wide x) in
+      let behind : place ≡ at + length written = e ∙ ap (λ (l : ℕ). at + l) (sym size) in
+      ap (λ (l : List ℕ). putAt l place (bytesOf x)) k
+      ∙ ap (λ (l : ℕ). putAt (putAt before at written) l (bytesOf x)) behind
+      ∙ putAt-join before at written (bytesOf x) fits
+      ∙ ap (putAt before at)
+      (ap (λ (l : List ℕ). written ++ l) (sym (append-nil (bytesOf x)))
+      ∙ sym (each-append (take i xs) (x ∷ []))
+      ∙ ap (each bytesOf) (sym (take-suc xs i z h) ∙ ap (λ (l : ℕ). take l xs) (sym (add-one i))))
+
+-- a turn of the loop that reads entries: the next one behind those before it
+pub read-turn : {A : Type 0} (read : ℕ → A) (width at i place : ℕ) (before now : List A) → i < length before → place ≡ at + width * i
+    → now ≡ over (entriesAt read width at i) before → set now i (read place) ≡ over (entriesAt read width at (i + 1)) before
+read-turn {A} read width at i place before now h e k =
+    ap (λ (l : List A). set l i (read place)) k
+    ∙ over-more (entriesAt read width at i) before (read place) i (length-entriesAt read width at i) h
+    ∙ ap (λ (l : List A). over l before)
+    (ap (λ (l : ℕ). entriesAt read width at i ++ (read l ∷ [])) e
+    ∙ sym (entriesAt-more read width at i)
+    ∙ ap (entriesAt read width at) (sym (add-one i)))

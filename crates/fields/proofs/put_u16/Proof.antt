@@ -1,0 +1,35 @@
+-- `fields::put_u16` meets its contract: its stores are a run of two.
+use native.Mathlib.Numerals.{add-one}
+use native.Mathlib.Omega.{arith}
+use lib.ListN.{length-set}
+use lib.Seq.{sets-eq}
+use borrow.Author.Needs.{needs}
+use Rattle.fields.specs.Bytes.{u16Bytes}
+use Rattle.fields.proofs.put_u16.Statement.{statement}
+use Rattle.fields.proofs.put_u16.Tie as tie
+
+cast-out : tie.Need-cast-out
+cast-out c = search needs
+
+slice-write-out : tie.Need-slice-write-out
+slice-write-out c = search needs
+
+cast-out-2 : tie.Need-cast-out-2
+cast-out-2 c = search needs
+
+add-out : tie.Need-add-out
+add-out c = search needs
+
+slice-write-out-2 : tie.Need-slice-write-out-2
+slice-write-out-2 c = simp length-set (omega arith)
+
+same-length : tie.Need-same-length
+same-length c = simp length-set
+
+returns : tie.Need-returns
+returns c = rw (add-one (c .args .at)) (sets-eq (u16Bytes (c .args .v)) (c .args .out .now) (c .args .at) (c .pre))
+
+pub put-u16-spec : {M : Type 1} → statement M
+put-u16-spec =
+    tie.close
+    (tie.spec cast-out slice-write-out cast-out-2 add-out slice-write-out-2 same-length returns)
