@@ -10,3 +10,6 @@ pub mod Distance
 pub mod Binary64
 pub mod CellScale
 pub mod Controls
+pub mod WholeClass
+pub mod RatioClass
+pub mod FloatDistance
