@@ -1,2 +1,3 @@
--- The computed cell of the triangle.
+-- The triangle as it is computed: its cell, its entries and the coordinate at its end.
 pub mod FloatCell
+pub mod FloatTriangle

@@ -1,0 +1,2 @@
+-- How the rows of the triangle stand in arrays.
+pub mod Row

@@ -1,0 +1,73 @@
+// The rows of the triangle, each an array of four numbers that goes in and comes out by value.
+ghost use mathlib.Core.Path.{_≡_};
+ghost use mathlib.Core.List.{List};
+ghost use Prim.Native.Nat.{ℕ, _+_, _-_, _≤_, _<_};
+ghost use lib.IntN.{ℤ};
+ghost use lib.ListN.{length};
+ghost use Rattle.triangle.specs.FloatTriangle.{cellAt, coordinateOf};
+ghost use Rattle.rows.specs.Row.{HoldsRow};
+
+// Row 0: the carrying coordinates of the span.
+fn first_row(ps: &[i32], degree: usize, span: usize) -> [f64; 4]
+    requires { ⌜ (degree ≤ 3) × (degree ≤ span) × (span < length (now ps)) ⌝ }
+    ensures row { λ d. ⌜ ((ts : List ℕ) (t : ℕ) → HoldsRow degree ts (now (ps .entry)) t span 0 d) ⌝ }
+{
+    let first = span - degree;
+    let mut row = [0.0; 4];
+    let mut a = 0;
+    while a <= degree {
+        row[a] = ps[first + a] as f64;
+        a += 1;
+    }
+    row
+}
+
+// The cell of row r at j, from the two entries of the row before.
+fn cell_at(knots: &[u16], degree: usize, r: usize, j: usize, t: u16, l: f64, d: f64) -> f64
+    requires { ⌜ (r ≤ degree) × (j + (degree - r) + 1 < length (now knots)) ⌝ }
+    ensures answer { λ e. ⌜ e ≡ cellAt degree (now (knots .entry)) t r j l d ⌝ }
+{
+    let after = j + (degree - r) + 1;
+    let low = knots[j];
+    let high = knots[after];
+    triangle::cell(
+        triangle::difference(high, t),
+        triangle::difference(t, low),
+        triangle::difference(high, low),
+        l,
+        d,
+    )
+}
+
+// Row r + 1 from row r: at each place the cell of the entry before it and its own.
+fn next_row(row: [f64; 4], knots: &[u16], degree: usize, span: usize, r: usize, t: u16) -> [f64; 4]
+    requires { ⌜ (r < degree) × (degree ≤ 3) × (degree ≤ span) × (span + degree < length (now knots)) ⌝ }
+    ensures row { λ d. ⌜ ((ps : List ℤ) → HoldsRow degree (now (knots .entry)) ps t span r row → HoldsRow degree (now (knots .entry)) ps t span (r + 1) d) ⌝ }
+{
+    let first = span - degree;
+    let mut next = [0.0; 4];
+    let mut a = r + 1;
+    while a <= degree {
+        next[a] = cell_at(knots, degree, r + 1, first + a, t, row[a - 1], row[a]);
+        a += 1;
+    }
+    next
+}
+
+// One coordinate of the point. Every row of the triangle is kept.
+pub fn coordinate(knots: &[u16], ps: &[i32], degree: usize, span: usize, t: u16) -> f64
+    requires { ⌜ (1 ≤ degree) × (degree ≤ 3) × (degree ≤ span) × (span < length (now ps)) × (span + degree < length (now knots)) ⌝ }
+    ensures answer { λ r. ⌜ r ≡ coordinateOf degree (now (knots .entry)) (now (ps .entry)) span t ⌝ }
+{
+    let row0 = first_row(ps, degree, span);
+    let row1 = next_row(row0, knots, degree, span, 0, t);
+    if degree == 1 {
+        return row1[1];
+    }
+    let row2 = next_row(row1, knots, degree, span, 1, t);
+    if degree == 2 {
+        return row2[2];
+    }
+    let row3 = next_row(row2, knots, degree, span, 2, t);
+    row3[3]
+}
