@@ -1,4 +1,5 @@
 -- Laws of the check's tests.
+pub mod CheckLaws
 pub mod CountLaws
 pub mod OrderLaws
 pub mod EntryLaws

@@ -2,7 +2,7 @@
 use borrow.Author.Needs.{needs}
 use native.Mathlib.Omega.{arith}
 use Rattle.refusal.proofs.JudgingLaws.{test-failed, test-passed}
-use Rattle.grid.specs.Check.{checkedThen, checkNumber}
+use Rattle.grid.proofs.CheckLaws.{check-degree, check-points, check-knots, check-order, check-ends, check-repeats, check-range, check-accepts}
 use Rattle.grid.proofs.CountLaws.{degree-of-test, points-of-test, knots-of-test}
 use Rattle.grid.proofs.check.Statement.{statement}
 use Rattle.grid.proofs.check.Tie as tie
@@ -11,104 +11,89 @@ degree-ok-requires : tie.Need-degree-ok-requires
 degree-ok-requires c κs = search needs
 
 returns : tie.Need-returns
-unfolding checkNumber checkedThen
 returns c =
-    rw
+    check-degree _ _ _ _
     (test-failed (c .if1 .taken) (c .before .degree-ok .ensures))
 
 point-count-ok-requires : tie.Need-point-count-ok-requires
 point-count-ok-requires c κs = (degree-of-test (c .before .before .before .args .degree) (test-passed (c .if1 .left) (c .before .degree-ok .ensures))) .1
 
 returns-2 : tie.Need-returns-2
-unfolding checkNumber checkedThen
 returns-2 c =
-    rw (
-      test-passed (c .before .before .if1 .left) (c .before .before .before .degree-ok .ensures),
-      test-failed (c .if2 .taken) (c .before .point-count-ok .ensures),
-    )
+    check-points _ _ _ _
+    (test-passed (c .before .before .if1 .left) (c .before .before .before .degree-ok .ensures))
+    (test-failed (c .if2 .taken) (c .before .point-count-ok .ensures))
 
 knot-count-ok-requires : tie.Need-knot-count-ok-requires
 knot-count-ok-requires c κs = ((degree-of-test (c .before .before .before .before .before .args .degree) (test-passed (c .before .before .if1 .left) (c .before .before .before .degree-ok .ensures))) .1, (points-of-test (c .before .before .before .before .before .args .degree) (c .before .before .before .before .before .args .xs .now) (c .before .before .before .before .before .args .ys .now) (test-passed (c .if2 .left) (c .before .point-count-ok .ensures))) .2)
 
 returns-3 : tie.Need-returns-3
-unfolding checkNumber checkedThen
 returns-3 c =
-    rw (
-      test-passed (c .before .before .before .before .if1 .left) (c .before .before .before .before .before .degree-ok .ensures),
-      test-passed (c .before .before .if2 .left) (c .before .before .before .point-count-ok .ensures),
-      test-failed (c .if3 .taken) (c .before .knot-count-ok .ensures),
-    )
+    check-knots _ _ _ _
+    (test-passed (c .before .before .before .before .if1 .left) (c .before .before .before .before .before .degree-ok .ensures))
+    (test-passed (c .before .before .if2 .left) (c .before .before .before .point-count-ok .ensures))
+    (test-failed (c .if3 .taken) (c .before .knot-count-ok .ensures))
 
 knot-order-ok-requires : tie.Need-knot-order-ok-requires
 knot-order-ok-requires c κs = search needs
 
 returns-4 : tie.Need-returns-4
-unfolding checkNumber checkedThen
 returns-4 c =
-    rw (
-      test-passed (c .before .before .before .before .before .before .if1 .left) (c .before .before .before .before .before .before .before .degree-ok .ensures),
-      test-passed (c .before .before .before .before .if2 .left) (c .before .before .before .before .before .point-count-ok .ensures),
-      test-passed (c .before .before .if3 .left) (c .before .before .before .knot-count-ok .ensures),
-      test-failed (c .if4 .taken) (c .before .knot-order-ok .ensures),
-    )
+    check-order _ _ _ _
+    (test-passed (c .before .before .before .before .before .before .if1 .left) (c .before .before .before .before .before .before .before .degree-ok .ensures))
+    (test-passed (c .before .before .before .before .if2 .left) (c .before .before .before .before .before .point-count-ok .ensures))
+    (test-passed (c .before .before .if3 .left) (c .before .before .before .knot-count-ok .ensures))
+    (test-failed (c .if4 .taken) (c .before .knot-order-ok .ensures))
 
 ends-ok-requires : tie.Need-ends-ok-requires
 ends-ok-requires c κs = omega (arith, knots-of-test (c .before .before .before .before .before .before .before .before .before .args .degree) (c .before .before .before .before .before .before .before .before .before .args .knots .now) (c .before .before .before .before .before .before .before .before .before .args .xs .now) (test-passed (c .before .before .if3 .left) (c .before .before .before .knot-count-ok .ensures)))
 
 returns-5 : tie.Need-returns-5
-unfolding checkNumber checkedThen
 returns-5 c =
-    rw (
-      test-passed (c .before .before .before .before .before .before .before .before .if1 .left) (c .before .before .before .before .before .before .before .before .before .degree-ok .ensures),
-      test-passed (c .before .before .before .before .before .before .if2 .left) (c .before .before .before .before .before .before .before .point-count-ok .ensures),
-      test-passed (c .before .before .before .before .if3 .left) (c .before .before .before .before .before .knot-count-ok .ensures),
-      test-passed (c .before .before .if4 .left) (c .before .before .before .knot-order-ok .ensures),
-      test-failed (c .if5 .taken) (c .before .ends-ok .ensures),
-    )
+    check-ends _ _ _ _
+    (test-passed (c .before .before .before .before .before .before .before .before .if1 .left) (c .before .before .before .before .before .before .before .before .before .degree-ok .ensures))
+    (test-passed (c .before .before .before .before .before .before .if2 .left) (c .before .before .before .before .before .before .before .point-count-ok .ensures))
+    (test-passed (c .before .before .before .before .if3 .left) (c .before .before .before .before .before .knot-count-ok .ensures))
+    (test-passed (c .before .before .if4 .left) (c .before .before .before .knot-order-ok .ensures))
+    (test-failed (c .if5 .taken) (c .before .ends-ok .ensures))
 
 repeats-ok-requires : tie.Need-repeats-ok-requires
 repeats-ok-requires c κs = (((degree-of-test (c .before .before .before .before .before .before .before .before .before .before .before .args .degree) (test-passed (c .before .before .before .before .before .before .before .before .if1 .left) (c .before .before .before .before .before .before .before .before .before .degree-ok .ensures))) .1, omega (arith, knots-of-test (c .before .before .before .before .before .before .before .before .before .before .before .args .degree) (c .before .before .before .before .before .before .before .before .before .before .before .args .knots .now) (c .before .before .before .before .before .before .before .before .before .before .before .args .xs .now) (test-passed (c .before .before .before .before .if3 .left) (c .before .before .before .before .before .knot-count-ok .ensures)))), test-passed (c .before .before .if4 .left) (c .before .before .before .knot-order-ok .ensures))
 
 returns-6 : tie.Need-returns-6
-unfolding checkNumber checkedThen
 returns-6 c =
-    rw (
-      test-passed (c .before .before .before .before .before .before .before .before .before .before .if1 .left) (c .before .before .before .before .before .before .before .before .before .before .before .degree-ok .ensures),
-      test-passed (c .before .before .before .before .before .before .before .before .if2 .left) (c .before .before .before .before .before .before .before .before .before .point-count-ok .ensures),
-      test-passed (c .before .before .before .before .before .before .if3 .left) (c .before .before .before .before .before .before .before .knot-count-ok .ensures),
-      test-passed (c .before .before .before .before .if4 .left) (c .before .before .before .before .before .knot-order-ok .ensures),
-      test-passed (c .before .before .if5 .left) (c .before .before .before .ends-ok .ensures),
-      test-failed (c .if6 .taken) (c .before .repeats-ok .ensures),
-    )
+    check-repeats _ _ _ _
+    (test-passed (c .before .before .before .before .before .before .before .before .before .before .if1 .left) (c .before .before .before .before .before .before .before .before .before .before .before .degree-ok .ensures))
+    (test-passed (c .before .before .before .before .before .before .before .before .if2 .left) (c .before .before .before .before .before .before .before .before .before .point-count-ok .ensures))
+    (test-passed (c .before .before .before .before .before .before .if3 .left) (c .before .before .before .before .before .before .before .knot-count-ok .ensures))
+    (test-passed (c .before .before .before .before .if4 .left) (c .before .before .before .before .before .knot-order-ok .ensures))
+    (test-passed (c .before .before .if5 .left) (c .before .before .before .ends-ok .ensures))
+    (test-failed (c .if6 .taken) (c .before .repeats-ok .ensures))
 
 range-ok-requires : tie.Need-range-ok-requires
 range-ok-requires c κs = search needs
 
 returns-7 : tie.Need-returns-7
-unfolding checkNumber checkedThen
 returns-7 c =
-    rw (
-      test-passed (c .before .before .before .before .before .before .before .before .before .before .before .before .if1 .left) (c .before .before .before .before .before .before .before .before .before .before .before .before .before .degree-ok .ensures),
-      test-passed (c .before .before .before .before .before .before .before .before .before .before .if2 .left) (c .before .before .before .before .before .before .before .before .before .before .before .point-count-ok .ensures),
-      test-passed (c .before .before .before .before .before .before .before .before .if3 .left) (c .before .before .before .before .before .before .before .before .before .knot-count-ok .ensures),
-      test-passed (c .before .before .before .before .before .before .if4 .left) (c .before .before .before .before .before .before .before .knot-order-ok .ensures),
-      test-passed (c .before .before .before .before .if5 .left) (c .before .before .before .before .before .ends-ok .ensures),
-      test-passed (c .before .before .if6 .left) (c .before .before .before .repeats-ok .ensures),
-      test-failed (c .if7 .taken) (c .before .range-ok .ensures),
-    )
+    check-range _ _ _ _
+    (test-passed (c .before .before .before .before .before .before .before .before .before .before .before .before .if1 .left) (c .before .before .before .before .before .before .before .before .before .before .before .before .before .degree-ok .ensures))
+    (test-passed (c .before .before .before .before .before .before .before .before .before .before .if2 .left) (c .before .before .before .before .before .before .before .before .before .before .before .point-count-ok .ensures))
+    (test-passed (c .before .before .before .before .before .before .before .before .if3 .left) (c .before .before .before .before .before .before .before .before .before .knot-count-ok .ensures))
+    (test-passed (c .before .before .before .before .before .before .if4 .left) (c .before .before .before .before .before .before .before .knot-order-ok .ensures))
+    (test-passed (c .before .before .before .before .if5 .left) (c .before .before .before .before .before .ends-ok .ensures))
+    (test-passed (c .before .before .if6 .left) (c .before .before .before .repeats-ok .ensures))
+    (test-failed (c .if7 .taken) (c .before .range-ok .ensures))
 
 returns-8 : tie.Need-returns-8
-unfolding checkNumber checkedThen
 returns-8 c =
-    rw (
-      test-passed (c .before .before .before .before .before .before .before .before .before .before .before .before .if1 .left) (c .before .before .before .before .before .before .before .before .before .before .before .before .before .degree-ok .ensures),
-      test-passed (c .before .before .before .before .before .before .before .before .before .before .if2 .left) (c .before .before .before .before .before .before .before .before .before .before .before .point-count-ok .ensures),
-      test-passed (c .before .before .before .before .before .before .before .before .if3 .left) (c .before .before .before .before .before .before .before .before .before .knot-count-ok .ensures),
-      test-passed (c .before .before .before .before .before .before .if4 .left) (c .before .before .before .before .before .before .before .knot-order-ok .ensures),
-      test-passed (c .before .before .before .before .if5 .left) (c .before .before .before .before .before .ends-ok .ensures),
-      test-passed (c .before .before .if6 .left) (c .before .before .before .repeats-ok .ensures),
-      test-passed (c .if7 .left) (c .before .range-ok .ensures),
-    )
+    check-accepts _ _ _ _
+    (test-passed (c .before .before .before .before .before .before .before .before .before .before .before .before .if1 .left) (c .before .before .before .before .before .before .before .before .before .before .before .before .before .degree-ok .ensures))
+    (test-passed (c .before .before .before .before .before .before .before .before .before .before .if2 .left) (c .before .before .before .before .before .before .before .before .before .before .before .point-count-ok .ensures))
+    (test-passed (c .before .before .before .before .before .before .before .before .if3 .left) (c .before .before .before .before .before .before .before .before .before .knot-count-ok .ensures))
+    (test-passed (c .before .before .before .before .before .before .if4 .left) (c .before .before .before .before .before .before .before .knot-order-ok .ensures))
+    (test-passed (c .before .before .before .before .if5 .left) (c .before .before .before .before .before .ends-ok .ensures))
+    (test-passed (c .before .before .if6 .left) (c .before .before .before .repeats-ok .ensures))
+    (test-passed (c .if7 .left) (c .before .range-ok .ensures))
 
 pub check-spec : {M : Type 1} → statement M
 check-spec =
