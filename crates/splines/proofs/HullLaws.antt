@@ -77,8 +77,8 @@ module _ (F : OrderedField) where
         (entry-among P convex ps m mi ends carried r j (omega arith) (omega arith) l)
 
     -- what is convex and holds of the carrying numbers holds of the curve
-    pub curve-among : (P : Number → Type 0) → Convex P → (ps : ℕ → Number) (m count : ℕ) → m ≤ i → i + m ≤ last → i < count
-        → ((j : ℕ) → i ≤ j + m → j ≤ i → P (ps j)) → P (curveAt O ts ps m count i t)
+    pub curve-among : (P : Number → Type 0) → Convex P → (ps : ℕ → Number) (m count : ℕ)
+        → m ≤ i → i + m ≤ last → i < count → ((j : ℕ) → i ≤ j + m → j ≤ i → P (ps j)) → P (curveAt O ts ps m count i t)
     curve-among P convex ps m count mi ends inside carried =
         subst P (triangle-is-curve F ts t i count inside ps m mi)
         (entry-among P convex ps m mi ends carried m i (omega arith) (omega arith) (omega arith))
@@ -91,6 +91,7 @@ module _ (F : OrderedField) where
         ∙ curve-among (λ x. x ≡ O .one) (point-convex (O .one)) (λ _. O .one) r count ri ends inside (λ j h k. refl)
 
     -- the curve is bounded by what bounds its carrying numbers, on either side
-    pub curve-bounded : (side : Side) (bound : Number) (ps : ℕ → Number) (m count : ℕ) → m ≤ i → i + m ≤ last → i < count
-        → ((j : ℕ) → i ≤ j + m → j ≤ i → Bounds F side bound (ps j)) → Bounds F side bound (curveAt O ts ps m count i t)
+    pub curve-bounded : (side : Side) (bound : Number) (ps : ℕ → Number) (m count : ℕ)
+        → m ≤ i → i + m ≤ last → i < count → ((j : ℕ) → i ≤ j + m → j ≤ i → Bounds F side bound (ps j))
+        → Bounds F side bound (curveAt O ts ps m count i t)
     curve-bounded side bound = curve-among (Bounds F side bound) (side-convex side bound)

@@ -49,6 +49,20 @@ oldSpan-from k i j h l =
       | no p ↦ rw (oldSpan-after k i (omega arith)) (omega arith)
     ]
 
+pub oldSpan-up-to : (k i n : ℕ) → i ≤ n + 1 → k ≤ n → oldSpan k i ≤ n
+oldSpan-up-to k i n h l =
+    elim (decLe i k) [
+      | yes p ↦ rw (oldSpan-before k i p) (omega arith)
+      | no p ↦ rw (oldSpan-after k i (omega arith)) (omega arith)
+    ]
+
+pub oldSpan-rising : (k i j : ℕ) → i ≤ j → oldSpan k i ≤ oldSpan k j
+oldSpan-rising k i j h =
+    elim (decLe i k) [
+      | yes p ↦ rw (oldSpan-before k i p) (oldSpan-from k j i h p)
+      | no p ↦ rw (oldSpan-after k i (omega arith), oldSpan-after k j (omega arith)) (omega arith)
+    ]
+
 module _ (F : OrderedField) where
   open OrderedField F using (operations as O)
   open Operations O using (Number)

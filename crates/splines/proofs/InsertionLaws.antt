@@ -15,7 +15,9 @@ use Rattle.splines.specs.Insertion.{insertedKnots, insertedPoints, oldSp
 use Rattle.splines.proofs.SpanLaws.{apart-round}
 use Rattle.splines.proofs.TriangleLaws.{row, entry-step, triangle-is-curve}
 use Rattle.splines.proofs.CellLaws.{cells-exchange, cell-cut, cell-cut-left}
-use Rattle.splines.proofs.InsertedLaws.{Place, before, inserted, after, place, oldSpan-before, oldSpan-after, oldSpan-near, oldSpan-from, knot-before, knot-inserted, knot-after, point-before, point-between, point-after, inserted-rising}
+use Rattle.splines.proofs.InsertedLaws.{Place, before, inserted, after, place, inserted-rising}
+use Rattle.splines.proofs.InsertedLaws.{knot-before, knot-inserted, knot-after, point-before, point-between, point-after}
+use Rattle.splines.proofs.InsertedLaws.{oldSpan-before, oldSpan-after, oldSpan-near, oldSpan-from}
 
 module _ (F : OrderedField) where
   open OrderedField F using (operations as O)
@@ -32,22 +34,28 @@ module _ (F : OrderedField) where
       abbrev Kept : Type 0
       Kept = row F knots t (insertedPoints O ts d (suc s) k v) s j ≡ insertedPoints O ts (row F ts t d s) s k v j
 
-      same : {w w′ low low′ l l′ r r′ : Number} → w ≡ w′ → low ≡ low′ → l ≡ l′ → r ≡ r′ → cell O w t low l r ≡ cell O w′ t low′ l′ r′
+      -- a cell over equal knots and equal entries
+      same : {w upper low lower l left r right : Number} → w ≡ upper → low ≡ lower → l ≡ left → r ≡ right
+          → cell O w t low l r ≡ cell O upper t lower left right
       same p q x y = λ i. cell O (p i) t (q i) (x i) (y i)
 
       apart-at : {x y : Number} → knots j ≡ x → knots (j + suc s) ≡ y → Below F x y
       apart-at p q = subst₂ (λ x y. Below F x y) p q apart
 
+      -- the row ends before the inserted knot ..
       row-before : j + suc s ≤ k → Kept
       row-before h =
-          same (knot-before F ts k v _ h) (knot-before F ts k v j (omega arith)) (point-before F ts k v d (suc s) (j - 1) (omega arith)) (point-before F ts k v d (suc s) j h)
+          same (knot-before F ts k v _ h) (knot-before F ts k v j (omega arith))
+          (point-before F ts k v d (suc s) (j - 1) (omega arith)) (point-before F ts k v d (suc s) j h)
           ∙ sym (point-before F ts k v (row F ts t d s) s j (omega arith))
 
+      -- .. or at it ..
       row-up-to : j + suc s ≡ k + 1 → Kept
       row-up-to h =
-          same stop start (point-before F ts k v d (suc s) (j - 1) (omega arith)) (point-between F ts k v d (suc s) j (omega arith) (omega arith))
-          ∙ cell-cut F (ts j) v (ts (j + suc s)) t (d (j - 1)) (d j) (λ e. Order.apart-of-below F (ts j) v (apart-at start stop) (sym e))
-          (λ e. Order.apart-of-below F (ts j) (ts (j + suc s)) (Order.below-atMost-trans F (ts j) v _ (apart-at start stop) (subst (λ w. AtMost F v (ts w)) (sym h) below)) (sym e))
+          same stop start
+          (point-before F ts k v d (suc s) (j - 1) (omega arith))
+          (point-between F ts k v d (suc s) j (omega arith) (omega arith))
+          ∙ cell-cut F (ts j) v (ts (j + suc s)) t (d (j - 1)) (d j) (λ e. near (sym e)) (λ e. far (sym e))
           ∙ sym (point-before F ts k v (row F ts t d s) s j (omega arith))
         where
           stop : knots (j + suc s) ≡ v
@@ -56,7 +64,15 @@ module _ (F : OrderedField) where
           start : knots j ≡ ts j
           start = knot-before F ts k v j (omega arith)
 
-      -- what the last two cases share: the row ends behind the inserted knot
+          near : ts j ≡ v → ⊥
+          near = Order.apart-of-below F (ts j) v (apart-at start stop)
+
+          far : ts j ≡ ts (j + suc s) → ⊥
+          far =
+              Order.apart-of-below F (ts j) (ts (j + suc s))
+              (Order.below-atMost-trans F (ts j) v _ (apart-at start stop) (subst (λ w. AtMost F v (ts w)) (sym h) below))
+
+      -- .. or behind it: then it begins before that knot, at it or behind it
       module _ (h : k + 1 < j + suc s) where
         stop : knots (j + suc s) ≡ ts (j + s)
         stop = knot-after F ts k v _ h ∙ ap ts back
@@ -93,7 +109,8 @@ module _ (F : OrderedField) where
             (point-after F ts k v d (suc s) j (omega arith))
             ∙ cell-cut-left F (ts (j - 1)) v (ts (j + s)) t _ _
             (Order.apart-of-below F v _ (apart-at start stop))
-            (Order.apart-of-below F (ts (j - 1)) _ (Order.atMost-below-trans F _ v _ (subst (λ w. AtMost F (ts w) v) back above) (apart-at start stop)))
+            (Order.apart-of-below F (ts (j - 1)) _
+            (Order.atMost-below-trans F _ v _ (subst (λ w. AtMost F (ts w) v) back above) (apart-at start stop)))
             ∙ sym (neighbour t)
             ∙ sym (point-after F ts k v (row F ts t d s) s j (omega arith))
           where

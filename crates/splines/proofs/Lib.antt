@@ -8,3 +8,4 @@ pub mod HermiteLaws
 pub mod CellLaws
 pub mod InsertedLaws
 pub mod InsertionLaws
+pub mod InsertedSpanLaws

@@ -11,3 +11,12 @@ pub record InSpan (F : OrderedField) (ts : ℕ → F .operations .Number) (i : �
   pub low : AtMost F (ts i) t
   pub high : AtMost F t (ts (i + 1))
   pub some : Below F (ts i) (ts (i + 1))
+
+-- the span rule: i is the largest index from m to n with t_i ≤ t and t_i < t_{i+1}
+pub record SpanRule (F : OrderedField) (ts : ℕ → F .operations .Number) (m n : ℕ) (t : F .operations .Number) (i : ℕ)
+    : Type 0 where
+  pub from : m ≤ i
+  pub to : i ≤ n
+  pub starts : AtMost F (ts i) t
+  pub wide : Below F (ts i) (ts (i + 1))
+  pub largest : (j : ℕ) → j ≤ n → AtMost F (ts j) t → Below F (ts j) (ts (j + 1)) → j ≤ i
