@@ -4,11 +4,8 @@ use mathlib.Core.Path.{_≡_, refl, ap, _∙_}
 use Prim.Native.Nat.{ℕ, zero, suc, _*_, _/_, _%_, _<_}
 use native.Mathlib.Nat.{mul-div-cancel, mul-mod-left, div-add-mod', zero-div, zero-mul}
 use native.Mathlib.Omega.{arith}
-use lib.Dec.{eqb}
 use lib.IntN.{ℤ, pos, negsuc, negℤ, natAbs, _*ℤ_}
-use lib.Signed.{quotZ, remZ}
-use mir.Syntax.{w64}
-use mir.Val.{ofZ}
+use lib.Signed.{quotZ}
 use borrow.Author.Tests.{eqb-true, eq-eqb}
 use Rattle.signed.specs.Division.{divides}
 use Rattle.signed.proofs.SizeLaws.{natAbs-mul}

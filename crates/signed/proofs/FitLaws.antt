@@ -3,29 +3,26 @@ use mathlib.Core.Path.{_≡_}
 use Prim.Native.Nat.{ℕ, _*_, _^_, _≤_, _<_}
 use native.Mathlib.Nat.{mul-le-mul}
 use native.Mathlib.Omega.{arith}
-use lib.IntN.{ℤ, pos, negsuc, natAbs, _*ℤ_}
+use lib.IntN.{ℤ, pos, natAbs, _*ℤ_}
 use mir.Syntax.{w32, w64}
 use mir.Val.{SFits, toZ, ofZ}
 use mir.ValLaws.{toZ-ofZ, toZ-pos}
+use Rattle.signed.proofs.WidthLaws.{sfits-of-size, size-of-sfits}
 use Rattle.signed.proofs.SizeLaws.{natAbs-mul}
 
 -- an i64, an i32
 pub fits64-of-size : (z : ℤ) → natAbs z < 2 ^ 63 → SFits w64 z
-fits64-of-size (pos n) h = record { sfits = omega arith }
-fits64-of-size (negsuc n) h = record { sfits = omega arith }
+fits64-of-size = sfits-of-size w64
 
 pub fits32-of-size : (z : ℤ) → natAbs z < 2 ^ 31 → SFits w32 z
-fits32-of-size (pos n) h = record { sfits = omega arith }
-fits32-of-size (negsuc n) h = record { sfits = omega arith }
+fits32-of-size = sfits-of-size w32
 
 -- how large an i32 can be, and an i64
 pub size-of-fits32 : (z : ℤ) → SFits w32 z → natAbs z ≤ 2 ^ 31
-size-of-fits32 (pos n) h = omega (arith, h .sfits)
-size-of-fits32 (negsuc n) h = omega (arith, h .sfits)
+size-of-fits32 = size-of-sfits w32
 
 pub size-of-fits64 : (z : ℤ) → SFits w64 z → natAbs z ≤ 2 ^ 63
-size-of-fits64 (pos n) h = omega (arith, h .sfits)
-size-of-fits64 (negsuc n) h = omega (arith, h .sfits)
+size-of-fits64 = size-of-sfits w64
 
 -- an i32 is an i64
 pub fits-wider : (z : ℤ) → SFits w32 z → SFits w64 z
