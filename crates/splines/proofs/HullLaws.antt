@@ -87,7 +87,7 @@ module _ (F : OrderedField) where
     pub basis-unity : (r count : ℕ) → r ≤ i → i + r ≤ last → i < count → sumOf O (basis O ts i t r) count ≡ O .one
     unfolding curveAt
     basis-unity r count ri ends inside =
-        sum-same F _ _ count (λ j h. sym (laws .mul-one _))
+        sum-same O _ _ count (λ j h. sym (laws .mul-one _))
         ∙ curve-among (λ x. x ≡ O .one) (point-convex (O .one)) (λ _. O .one) r count ri ends inside (λ j h k. refl)
 
     -- the curve is bounded by what bounds its carrying numbers, on either side

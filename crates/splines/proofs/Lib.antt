@@ -1,5 +1,6 @@
 -- The theory of B-spline curves over any ordered field, in any degree.
 pub mod SumLaws
+pub mod CurveLaws
 pub mod SpanLaws
 pub mod BasisLaws
 pub mod TriangleLaws

@@ -68,13 +68,13 @@ module _ (F : OrderedField) where
           → sumOf O (λ j. mul (basis O ts i t (suc s) j) (d j)) count
           ≡ sumOf O (λ j. mul (basis O ts i t s j) (row ts t d s j)) count
       row-keeps h =
-          sum-same F _ _ count (λ j _. spread j)
+          sum-same O _ _ count (λ j _. spread j)
           ∙ sym (laws .add-zero _)
           ∙ ap (add _) (sym (falling-none 0 (λ a b. omega arith)))
           ∙ sum-shift F rising falling count
           ∙ ap (add _) (falling-none count (λ a b. omega arith))
           ∙ laws .add-zero _
-          ∙ sum-same F _ _ count (λ j _. gather _ _ _ _ _ _)
+          ∙ sum-same O _ _ count (λ j _. gather _ _ _ _ _ _)
 
     -- the curve by the basis of degree s over row r of the triangle
     curve-by-row : (ps : ℕ → Number) (m r s : ℕ) → r + s ≡ m → m ≤ i
@@ -87,7 +87,7 @@ module _ (F : OrderedField) where
     curve-by-row ps m (suc r) s e h =
         curve-by-row ps m r (suc s) (omega arith) h
         ∙ row-keeps (entry O ts ps m t r) s (omega arith)
-        ∙ sum-same F _ _ count (λ j _. ap (mul _) (sym (entry-step ts t ps m r s j e)))
+        ∙ sum-same O _ _ count (λ j _. ap (mul _) (sym (entry-step ts t ps m r s j e)))
 
     -- the triangle's last entry is the sum of N_{j,m}(t)·P_j over all j
     pub triangle-is-curve : (ps : ℕ → Number) (m : ℕ) → m ≤ i → entry O ts ps m t m i ≡ curveAt O ts ps m count i t
