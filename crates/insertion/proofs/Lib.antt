@@ -1,0 +1,9 @@
+-- Laws of inserting a knot.
+pub mod OrderLaws
+pub mod MeanLaws
+pub mod WriteLaws
+pub mod SpanLaws
+pub mod KnotLaws
+pub mod QuotientLaws
+pub mod WholeLaws
+pub mod PointLaws

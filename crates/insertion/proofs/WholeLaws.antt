@@ -1,0 +1,40 @@
+-- Walking the quotients from Q_{i-m+1} to Q_i: all are whole exactly where those passed and the rest are.
+use mathlib.Core.Bool.{true, false, _&&_}
+use mathlib.Core.Path.{_≡_, refl, sym, ap, _∙_}
+use mathlib.Core.List.{List}
+use Prim.Native.Nat.{ℕ, zero, suc, _+_, _-_, _≤_, _<_}
+use native.Mathlib.Omega.{arith}
+use lib.IntN.{ℤ}
+use Rattle.signed.specs.Division.{divides}
+use Rattle.insertion.specs.Insertion.{insertionSpan, wholePoints, wholeFrom, weight, weightedSum}
+
+module _ (m : ℕ) (ts : List ℕ) (ps : List ℤ) (v i : ℕ) where
+  pub whole-begins : i ≡ insertionSpan ts v → m ≤ insertionSpan ts v
+      → wholePoints m ts ps v ≡ wholeFrom m ts ps v (i + 1 - (i + 1 - m)) (i + 1 - m)
+  unfolding wholePoints
+  whole-begins e least =
+      let count : i + 1 - (i + 1 - m) ≡ m = omega arith in
+      rw (count, e)
+
+  one-more : (j : ℕ) → j ≤ i → wholePoints m ts ps v ≡ wholeFrom m ts ps v (i + 1 - j) j
+      → wholePoints m ts ps v ≡ (divides (weight m ts j) (weightedSum m ts ps v j) && wholeFrom m ts ps v (i + 1 - (j + 1)) (j + 1))
+  unfolding wholeFrom
+  one-more j h whole =
+      let count : i + 1 - j ≡ suc (i + 1 - (j + 1)) = omega arith in
+      whole ∙ rw count
+
+  pub whole-fails : (j : ℕ) → j ≤ i → wholePoints m ts ps v ≡ wholeFrom m ts ps v (i + 1 - j) j
+      → divides (weight m ts j) (weightedSum m ts ps v j) ≡ false → false ≡ wholePoints m ts ps v
+  whole-fails j h whole test = rw (one-more j h whole, test)
+
+  pub whole-goes-on : (j : ℕ) → j ≤ i → wholePoints m ts ps v ≡ wholeFrom m ts ps v (i + 1 - j) j
+      → divides (weight m ts j) (weightedSum m ts ps v j) ≡ true
+      → wholePoints m ts ps v ≡ wholeFrom m ts ps v (i + 1 - (j + 1)) (j + 1)
+  whole-goes-on j h whole test = rw (one-more j h whole, test)
+
+  pub whole-ends : (j : ℕ) → j ≡ i + 1 → wholePoints m ts ps v ≡ wholeFrom m ts ps v (i + 1 - j) j
+      → true ≡ wholePoints m ts ps v
+  unfolding wholeFrom
+  whole-ends j e whole =
+      let none : i + 1 - j ≡ 0 = omega arith in
+      rw (whole, none)

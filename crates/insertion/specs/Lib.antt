@@ -1,0 +1,3 @@
+-- Inserting a knot.
+pub mod Insertion
+pub mod Standing
