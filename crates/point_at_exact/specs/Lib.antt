@@ -1,0 +1,2 @@
+-- What it means that a computed coordinate is near an exact one.
+pub mod NearExact
