@@ -1,12 +1,24 @@
 -- The check's answer, row by row: the tests before a row passed, and its own failed.
-use mathlib.Core.Bool.{true, false}
+use mathlib.Core.Bool.{true, false, cond}
 use mathlib.Core.List.{List}
-use mathlib.Core.Path.{_≡_}
-use Prim.Native.Nat.{ℕ}
+use mathlib.Core.Path.{_≡_, refl}
+use Prim.Native.Nat.{ℕ, _≤_}
+use lib.Dec.{eqb, lit≤}
 use lib.IntN.{ℤ}
+use Rattle.refusal.proofs.JudgingLaws.{unless-accepted, unless-split, unless-most}
 use Rattle.refusal.specs.Numbers.{accepted, degreeRefused, pointCountRefused, knotCountRefused, knotOrderRefused, endsRefused, repeatsRefused, rangeRefused}
 use Rattle.grid.specs.Rows.{degreeOk, pointCountOk, knotCountOk, knotOrderOk, endsOk, repeatsOk, rangeOk}
-use Rattle.grid.specs.Check.{checkedThen, checkNumber}
+use Rattle.grid.specs.Check.{checkedThen, checkNumber, Passes}
+
+-- all seven tests of a curve
+pub record TestsPass (m : ℕ) (ts : List ℕ) (xs ys : List ℤ) : Type 0 where
+  pub degree : degreeOk m ≡ true
+  pub points : pointCountOk m xs ys ≡ true
+  pub knots : knotCountOk m ts xs ≡ true
+  pub order : knotOrderOk ts ≡ true
+  pub ends : endsOk m ts ≡ true
+  pub repeats : repeatsOk m ts ≡ true
+  pub range : rangeOk xs ys ≡ true
 
 module _ (m : ℕ) (ts : List ℕ) (xs ys : List ℤ) where
   pub check-degree : degreeOk m ≡ false → degreeRefused ≡ checkNumber m ts xs ys
@@ -40,3 +52,40 @@ module _ (m : ℕ) (ts : List ℕ) (xs ys : List ℤ) where
   pub check-accepts : degreeOk m ≡ true → pointCountOk m xs ys ≡ true → knotCountOk m ts xs ≡ true → knotOrderOk ts ≡ true → endsOk m ts ≡ true → repeatsOk m ts ≡ true → rangeOk xs ys ≡ true → accepted ≡ checkNumber m ts xs ys
   unfolding checkNumber checkedThen
   check-accepts p q r s t u v = rw (p, q, r, s, t, u, v)
+
+  -- what is judged after the check is judged exactly where the check refuses nothing
+  pub checkedThen-split : (next : ℕ) → checkedThen m ts xs ys next ≡ cond (eqb (checkNumber m ts xs ys) 0) next (checkNumber m ts xs ys)
+  unfolding checkNumber checkedThen
+  checkedThen-split next =
+      unless-split (degreeOk m) 0 next _ _
+      (unless-split (pointCountOk m xs ys) 1 next _ _
+      (unless-split (knotCountOk m ts xs) 2 next _ _
+      (unless-split (knotOrderOk ts) 3 next _ _
+      (unless-split (endsOk m ts) 4 next _ _
+      (unless-split (repeatsOk m ts) 5 next _ _
+      (unless-split (rangeOk xs ys) 6 next next 0 refl))))))
+
+  -- the answer is 0 or one of 1 to 7
+  pub checkNumber-most : checkNumber m ts xs ys ≤ rangeRefused
+  unfolding checkNumber checkedThen
+  checkNumber-most =
+      unless-most (degreeOk m) 1 _ 7 (lit≤ tt)
+      (unless-most (pointCountOk m xs ys) 2 _ 7 (lit≤ tt)
+      (unless-most (knotCountOk m ts xs) 3 _ 7 (lit≤ tt)
+      (unless-most (knotOrderOk ts) 4 _ 7 (lit≤ tt)
+      (unless-most (endsOk m ts) 5 _ 7 (lit≤ tt)
+      (unless-most (repeatsOk m ts) 6 _ 7 (lit≤ tt)
+      (unless-most (rangeOk xs ys) 7 0 7 (lit≤ tt) (lit≤ tt)))))))
+
+  -- what every test says where the check refuses nothing
+  pub passes-tests : Passes m ts xs ys → TestsPass m ts xs ys
+  unfolding checkNumber checkedThen
+  passes-tests h =
+      let a = unless-accepted (degreeOk m) 0 _ h in
+      let b = unless-accepted (pointCountOk m xs ys) 1 _ (a .1) in
+      let c = unless-accepted (knotCountOk m ts xs) 2 _ (b .1) in
+      let d = unless-accepted (knotOrderOk ts) 3 _ (c .1) in
+      let e = unless-accepted (endsOk m ts) 4 _ (d .1) in
+      let f = unless-accepted (repeatsOk m ts) 5 _ (e .1) in
+      let g = unless-accepted (rangeOk xs ys) 6 _ (f .1) in
+      record { degree = a .0; points = b .0; knots = c .0; order = d .0; ends = e .0; repeats = f .0; range = g .0 }

@@ -1,7 +1,8 @@
 -- What an answer says of the test that was judged first.
-use mathlib.Core.Bool.{Bool, true, false, not}
+use mathlib.Core.Bool.{Bool, true, false, not, cond}
 use mathlib.Core.Path.{_≡_, refl, sym, _∙_}
-use Prim.Native.Nat.{ℕ, suc}
+use Prim.Native.Nat.{ℕ, suc, _≤_}
+use lib.Dec.{eqb, eqb·suc-zero}
 use borrow.Author.Tests.{not-true, not-false}
 use native.Mathlib.Omega.{arith}
 use Rattle.refusal.specs.Judging.{unless}
@@ -18,3 +19,14 @@ test-failed {flag} {test} n e = sym e ∙ not-true flag n
 -- it passed
 pub test-passed : {flag test : Bool} → not flag ≡ false → flag ≡ test → test ≡ true
 test-passed {flag} {test} n e = sym e ∙ not-false flag n
+
+-- a chain that goes on to `next` is the chain by itself, with `next` where that refuses nothing
+pub unless-split : (ok : Bool) (n next whole alone : ℕ) → whole ≡ cond (eqb alone 0) next alone
+    → unless ok (suc n) whole ≡ cond (eqb (unless ok (suc n) alone) 0) next (unless ok (suc n) alone)
+unless-split true n next whole alone h = h
+unless-split false n next whole alone h = rw (eqb·suc-zero n)
+
+-- a number that bounds both bounds the answer
+pub unless-most : (ok : Bool) (n next most : ℕ) → n ≤ most → next ≤ most → unless ok n next ≤ most
+unless-most true n next most h k = k
+unless-most false n next most h k = h
