@@ -89,6 +89,22 @@ spanOf-is ts m (suc n) p q h low wide =
     turn-is ts m n p q (spanOf ts m n p q) (leb (suc n) m) (startsAt ts p q (suc n)) refl refl h low wide
     (λ mn w. spanOf-is ts m n p q mn low w)
 
+turn-within :
+    (m n lower : ℕ) (b s : Bool) → leb (suc n) m ≡ b → m ≤ suc n → (m ≤ n → (m ≤ lower) × (lower ≤ n))
+    → (m ≤ cond (b || s) (suc n) lower) × (cond (b || s) (suc n) lower ≤ suc n)
+turn-within m n lower true s e h below = (h, le-refl (suc n))
+turn-within m n lower false true e h below = (h, le-refl (suc n))
+turn-within m n lower false false e h below =
+    let w : (m ≤ lower) × (lower ≤ n) = below (omega (arith, leb-false (suc n) m e)) in
+    omega arith
+
+-- the search stays from m to n, whatever the knots
+pub spanOf-within : (ts : List ℕ) (m n p q : ℕ) → m ≤ n → (m ≤ spanOf ts m n p q) × (spanOf ts m n p q ≤ n)
+unfolding spanOf
+spanOf-within ts m zero p q h = (h, le-refl zero)
+spanOf-within ts m (suc n) p q h =
+    turn-within m n (spanOf ts m n p q) (leb (suc n) m) (startsAt ts p q (suc n)) refl h (λ mn. spanOf-within ts m n p q mn)
+
 -- a parameter has one span
 pub span-unique : (ts : List ℕ) (m n p q i j : ℕ) → IsSpan ts m n p q i → IsSpan ts m n p q j → i ≡ j
 span-unique ts m n p q i j a b =

@@ -1,0 +1,3 @@
+-- Laws of what a call at a parameter is refused with.
+pub mod SplitLaws
+pub mod ParameterLaws

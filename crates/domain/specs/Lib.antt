@@ -1,0 +1,2 @@
+-- Which parameters a call refuses.
+pub mod Parameter

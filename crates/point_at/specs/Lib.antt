@@ -1,0 +1,2 @@
+-- The answer of the point call.
+pub mod Point
