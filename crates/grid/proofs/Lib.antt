@@ -4,3 +4,5 @@ pub mod CountLaws
 pub mod OrderLaws
 pub mod EntryLaws
 pub mod RepeatLaws
+pub mod ThenLaws
+pub mod SizeLaws

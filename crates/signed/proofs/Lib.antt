@@ -9,3 +9,4 @@ pub mod CastLaws
 pub mod ScaleLaws
 pub mod DivisionLaws
 pub mod RemainderLaws
+pub mod ReadLaws

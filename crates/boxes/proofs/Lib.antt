@@ -1,0 +1,3 @@
+-- Laws of boxes.
+pub mod MeetingLaws
+pub mod PickLaws

@@ -1,0 +1,56 @@
+// The list of spans that may meet a clamp.
+mod walk;
+
+ghost use mathlib.Core.Path.{_≡_};
+ghost use lib.ListN.{length};
+ghost use Rattle.lent.specs.Lent.{after};
+ghost use Rattle.spans_met.specs.Answer.{metBy, listRefusal, listAnswer};
+ghost use Rattle.spans_met.specs.SpansMet.{lowKnots, highKnots};
+
+// A rectangle with closed sides.
+pub struct Rectangle {
+    pub low_x: i32,
+    pub high_x: i32,
+    pub low_y: i32,
+    pub high_y: i32,
+}
+
+// How many spans were listed, or the number of refusal.
+pub enum SpansAnswer {
+    Listed(usize),
+    Refused(u32),
+}
+
+// List the two knots of each non-empty span whose box of carrying points meets the clamp, in rising order.
+// Both lists need a place for each non-empty span of the curve.
+pub fn list_spans_met(
+    degree: u32,
+    knots: &[u16],
+    xs: &[i32],
+    ys: &[i32],
+    clamp: Rectangle,
+    lows: &mut [u16],
+    highs: &mut [u16],
+) -> SpansAnswer
+    ensures answer { λ r. ⌜ r ≡ listAnswer degree (now (knots .entry)) (now (xs .entry)) (now (ys .entry)) clamp (length (now (lows .entry))) (length (now (highs .entry))) ⌝ }
+    ensures lows { λ r. ⌜ now (lows .exit) ≡ after (listRefusal degree (now (knots .entry)) (now (xs .entry)) (now (ys .entry)) clamp (length (now (lows .entry))) (length (now (highs .entry)))) (lowKnots (now (knots .entry)) (metBy clamp degree (now (knots .entry)) (now (xs .entry)) (now (ys .entry)))) (now (lows .entry)) ⌝ }
+    ensures highs { λ r. ⌜ now (highs .exit) ≡ after (listRefusal degree (now (knots .entry)) (now (xs .entry)) (now (ys .entry)) clamp (length (now (lows .entry))) (length (now (highs .entry)))) (highKnots (now (knots .entry)) (metBy clamp degree (now (knots .entry)) (now (xs .entry)) (now (ys .entry)))) (now (highs .entry)) ⌝ }
+{
+    let number = grid::check(degree, knots, xs, ys);
+    if number != refusal::ACCEPTED {
+        return SpansAnswer::Refused(number);
+    }
+    if !grid::sides_ok(clamp.low_x, clamp.high_x, clamp.low_y, clamp.high_y) {
+        return SpansAnswer::Refused(refusal::RECTANGLE);
+    }
+    let m = degree as usize;
+    let places = walk::count_spans(knots, m, xs.len());
+    if lows.len() < places {
+        return SpansAnswer::Refused(refusal::ROOM);
+    }
+    if highs.len() < places {
+        return SpansAnswer::Refused(refusal::ROOM);
+    }
+    let count = walk::fill(knots, xs, ys, m, clamp, lows, highs);
+    SpansAnswer::Listed(count)
+}
