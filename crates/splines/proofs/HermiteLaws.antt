@@ -1,7 +1,7 @@
 -- A cubic span whose three knots on each side are equal is a Bezier cubic of its carrying numbers; with inner control
 -- numbers a third of a tangent away from the ends it is the Hermite cubic. Both hold at every t.
 -- Others may cite `triangle-is-bezier`, `bezier-is-hermite`, `piece-is-hermite`.
-use mathlib.Core.Path.{_≡_, refl, ap, ap₂, sym, _∙_}
+use mathlib.Core.Path.{_≡_, refl, ap, ap₂, sym, _∙_, fun-ext}
 use mathlib.Core.List.{[], _∷_}
 use Prim.Native.Nat.{ℕ, zero, suc, _+_, _-_, _≤_, _<_}
 use native.Mathlib.Omega.{arith}
@@ -21,24 +21,33 @@ casteljau : (O : Operations) (a b : O .Number) (ps : ℕ → O .Number) (t : O .
 casteljau O a b ps t zero j = ps j
 casteljau O a b ps t (suc r) j = cell O b t a (casteljau O a b ps t r (j - 1)) (casteljau O a b ps t r j)
 
--- three rows of it
-abbrev cells : (O : Operations) (a b t p₀ p₁ p₂ p₃ : O .Number) → O .Number
-cells O a b t p₀ p₁ p₂ p₃ =
-    cell O b t a
-    (cell O b t a (cell O b t a p₀ p₁) (cell O b t a p₁ p₂))
-    (cell O b t a (cell O b t a p₁ p₂) (cell O b t a p₂ p₃))
+-- three rows of it, over what works out a cell from two entries
+abbrev rows : {A : Type 0} (f : A → A → A) (p₀ p₁ p₂ p₃ : A) → A
+rows f p₀ p₁ p₂ p₃ = f (f (f p₀ p₁) (f p₁ p₂)) (f (f p₁ p₂) (f p₂ p₃))
 
 module _ (F : OrderedField) where
-  open OrderedField F using (operations as O, laws)
+  open OrderedField F using (operations as O)
   open Operations O using (Number, add, mul, inv)
 
-  -- the cells are x·left + y·right
-  cells-are-bezier : (a b t p₀ p₁ p₂ p₃ : Number) → cells O a b t p₀ p₁ p₂ p₃ ≡ bezier O a b p₀ p₁ p₂ p₃ t
-  unfolding numeral
-  cells-are-bezier a b t p₀ p₁ p₂ p₃ =
-      ring (fieldRing F) (a ∷ b ∷ t ∷ p₀ ∷ p₁ ∷ p₂ ∷ p₃ ∷ inv (sub O b a) ∷ [])
-      (cells (expressions [] 7) (var 0) (var 1) (var 2) (var 3) (var 4) (var 5) (var 6))
-      (bezier (expressions [] 7) (var 0) (var 1) (var 3) (var 4) (var 5) (var 6) (var 2)) refl
+  -- a cell is x·left + y·right, and three rows of such means are the Bernstein cubic
+  rows-are-bezier : (a b t p₀ p₁ p₂ p₃ : Number) → rows (cell O b t a) p₀ p₁ p₂ p₃ ≡ bezier O a b p₀ p₁ p₂ p₃ t
+  rows-are-bezier a b t p₀ p₁ p₂ p₃ =
+      ap (λ f. rows f p₀ p₁ p₂ p₃) (fun-ext (λ l. fun-ext (λ r. cell-is-mean l r)))
+      ∙ rows-are-bernstein (div O (sub O b t) (sub O b a)) (div O (sub O t a) (sub O b a))
+    where
+      cell-is-mean : (l r : Number)
+          → cell O b t a l r
+          ≡ add (mul (div O (sub O b t) (sub O b a)) l) (mul (div O (sub O t a) (sub O b a)) r)
+      cell-is-mean l r =
+          ring (fieldRing F) (a ∷ b ∷ t ∷ l ∷ r ∷ inv (sub O b a) ∷ [])
+          (cell (expressions [] 5) (var 1) (var 2) (var 0) (var 3) (var 4))
+          ((var 1 ⊖ var 2) ⊗ var 5 ⊗ var 3 ⊕ (var 2 ⊖ var 0) ⊗ var 5 ⊗ var 4) refl
+
+      rows-are-bernstein : (x y : Number) → rows (λ l r. add (mul x l) (mul y r)) p₀ p₁ p₂ p₃ ≡ bernstein O x y p₀ p₁ p₂ p₃
+      rows-are-bernstein x y = unfold numeral in
+          ring (fieldRing F) (x ∷ y ∷ p₀ ∷ p₁ ∷ p₂ ∷ p₃ ∷ [])
+          (rows (λ l r. var 0 ⊗ l ⊕ var 1 ⊗ r) (var 2) (var 3) (var 4) (var 5))
+          (bernstein (expressions [] 6) (var 0) (var 1) (var 2) (var 3) (var 4) (var 5)) refl
 
   -- 3·p₁ = 3·p + h·u and 3·p₂ = 3·q - h·v make the Bernstein cubic at 1 - y and y the Hermite cubic at y
   bernstein-is-hermite : (h y p p₁ p₂ q u v : Number)
@@ -87,8 +96,8 @@ module _ (F : OrderedField) where
     unfolding casteljau
     triangle-is-bezier =
         entry-is-casteljau ts ps i 3 a b t full starts ends 3 i (omega arith) (omega arith) (omega arith)
-        ∙ ap₂ (λ x y. cells O a b t (ps x) (ps y) (ps (i - 1)) (ps i)) third second
-        ∙ cells-are-bezier a b t (ps (i - 3)) (ps (i - 2)) (ps (i - 1)) (ps i)
+        ∙ ap₂ (λ x y. rows (cell O b t a) (ps x) (ps y) (ps (i - 1)) (ps i)) third second
+        ∙ rows-are-bezier a b t (ps (i - 3)) (ps (i - 2)) (ps (i - 1)) (ps i)
       where
         third : i - 1 - 1 - 1 ≡ i - 3
         third = omega arith

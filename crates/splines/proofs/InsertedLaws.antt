@@ -2,7 +2,7 @@
 -- of the old knots that holds a span of the new ones.
 -- Others may cite `knot-before`, `knot-inserted`, `knot-after`, `point-before`, `point-between`, `point-after`,
 -- `inserted-rising` and the laws of `oldSpan`.
-use mathlib.Core.Path.{_≡_, refl, sym, subst₂}
+use mathlib.Core.Path.{_≡_, sym, subst₂}
 use Prim.Native.Nat.{ℕ, suc, _+_, _-_, _≤_, _<_}
 use native.Mathlib.Omega.{arith}
 use native.Mathlib.Decide.{decLe, ℕ-discrete}

@@ -5,7 +5,6 @@ use mathlib.Core.Path.{_≡_, ap, sym, _∙_, subst, subst₂}
 use mathlib.Core.Logic.{⊎-elim}
 use Prim.Native.Nat.{ℕ, suc, _+_, _-_, _≤_, _<_}
 use native.Mathlib.Omega.{arith}
-use native.Mathlib.Decide.{decLe, ℕ-discrete}
 use Rattle.algebra.specs.Operations.{Operations}
 use Rattle.algebra.specs.OrderedField.{OrderedField, AtMost, Below}
 use Rattle.algebra.proofs.OrderLaws as Order

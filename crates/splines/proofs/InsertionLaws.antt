@@ -14,7 +14,7 @@ use Rattle.splines.specs.Span.{Rising}
 use Rattle.splines.specs.Insertion.{insertedKnots, insertedPoints, oldSpan}
 use Rattle.splines.proofs.SpanLaws.{apart-round}
 use Rattle.splines.proofs.TriangleLaws.{row, entry-step, triangle-is-curve}
-use Rattle.splines.proofs.CellLaws.{cells-exchange, cell-cut, cell-cut-left}
+use Rattle.splines.proofs.CellLaws.{cells-exchange, cell-cut-high, cell-cut-low}
 use Rattle.splines.proofs.InsertedLaws.{Place, before, inserted, after, place, inserted-rising}
 use Rattle.splines.proofs.InsertedLaws.{knot-before, knot-inserted, knot-after, point-before, point-between, point-after}
 use Rattle.splines.proofs.InsertedLaws.{oldSpan-before, oldSpan-after, oldSpan-near, oldSpan-from}
@@ -55,7 +55,7 @@ module _ (F : OrderedField) where
           same stop start
           (point-before F ts k v d (suc s) (j - 1) (omega arith))
           (point-between F ts k v d (suc s) j (omega arith) (omega arith))
-          ∙ cell-cut F (ts j) v (ts (j + suc s)) t (d (j - 1)) (d j) (λ e. near (sym e)) (λ e. far (sym e))
+          ∙ cell-cut-high F (ts j) v (ts (j + suc s)) t (d (j - 1)) (d j) near far
           ∙ sym (point-before F ts k v (row F ts t d s) s j (omega arith))
         where
           stop : knots (j + suc s) ≡ v
@@ -64,13 +64,11 @@ module _ (F : OrderedField) where
           start : knots j ≡ ts j
           start = knot-before F ts k v j (omega arith)
 
-          near : ts j ≡ v → ⊥
-          near = Order.apart-of-below F (ts j) v (apart-at start stop)
+          near : Below F (ts j) v
+          near = apart-at start stop
 
-          far : ts j ≡ ts (j + suc s) → ⊥
-          far =
-              Order.apart-of-below F (ts j) (ts (j + suc s))
-              (Order.below-atMost-trans F (ts j) v _ (apart-at start stop) (subst (λ w. AtMost F v (ts w)) (sym h) below))
+          far : Below F (ts j) (ts (j + suc s))
+          far = Order.below-atMost-trans F (ts j) v _ near (subst (λ w. AtMost F v (ts w)) (sym h) below)
 
       -- .. or behind it: then it begins before that knot, at it or behind it
       module _ (h : k + 1 < j + suc s) where
@@ -107,10 +105,8 @@ module _ (F : OrderedField) where
             same stop start
             (point-between F ts k v d (suc s) (j - 1) (omega arith) (omega arith) ∙ neighbour v)
             (point-after F ts k v d (suc s) j (omega arith))
-            ∙ cell-cut-left F (ts (j - 1)) v (ts (j + s)) t _ _
-            (Order.apart-of-below F v _ (apart-at start stop))
-            (Order.apart-of-below F (ts (j - 1)) _
-            (Order.atMost-below-trans F _ v _ (subst (λ w. AtMost F (ts w) v) back above) (apart-at start stop)))
+            ∙ cell-cut-low F (ts (j - 1)) v (ts (j + s)) t _ _ (apart-at start stop)
+            (Order.atMost-below-trans F _ v _ (subst (λ w. AtMost F (ts w) v) back above) (apart-at start stop))
             ∙ sym (neighbour t)
             ∙ sym (point-after F ts k v (row F ts t d s) s j (omega arith))
           where

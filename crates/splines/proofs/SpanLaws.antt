@@ -1,7 +1,7 @@
 -- The knots round a span that is not empty: those up to the span's index are at most t, those behind it at least t, and
 -- each of the former is below each of the latter. Others may cite `left-of`, `right-of`, `apart-round`, `divisor-inverse`.
 use mathlib.Core.Path.{_≡_}
-use Prim.Native.Nat.{ℕ, suc, _+_, _≤_, _<_}
+use Prim.Native.Nat.{ℕ, _+_, _≤_, _<_}
 use native.Mathlib.Omega.{arith}
 use Rattle.algebra.specs.Operations.{Operations, sub}
 use Rattle.algebra.specs.OrderedField.{OrderedField, AtMost, Below}
