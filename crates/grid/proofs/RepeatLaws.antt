@@ -57,12 +57,12 @@ occurrences-above v low (t ∷ ts) l h =
     rw (ne-eqb t v (λ e. omega arith)) (occurrences-above v t ts (omega arith) (p .1))
 
 -- one entry more: v itself
-occurrences-is : (v t : ℕ) (ts : List ℕ) → t ≡ v → occurrences v (t ∷ ts) ≡ suc (occurrences v ts)
+pub occurrences-is : (v t : ℕ) (ts : List ℕ) → t ≡ v → occurrences v (t ∷ ts) ≡ suc (occurrences v ts)
 unfolding occurrences
 occurrences-is v t ts e = rw (eq-eqb t v e)
 
 -- one entry more: another value
-occurrences-not : (v t : ℕ) (ts : List ℕ) → (t ≡ v → ⊥) → occurrences v (t ∷ ts) ≡ occurrences v ts
+pub occurrences-not : (v t : ℕ) (ts : List ℕ) → (t ≡ v → ⊥) → occurrences v (t ∷ ts) ≡ occurrences v ts
 unfolding occurrences
 occurrences-not v t ts n = rw (ne-eqb t v n)
 

@@ -1,0 +1,52 @@
+-- A curve passes the check exactly when the facts of `Checked` hold of it.
+use mathlib.Core.List.{List}
+use mathlib.Core.Path.{_≡_}
+use Prim.Native.Nat.{ℕ, _-_, _≤_, _<_}
+use native.Mathlib.Omega.{arith}
+use lib.IntN.{ℤ}
+use lib.ListN.{length, getD}
+use Rattle.grid.specs.Rows.{firstKnot, lastKnot, knotOrderOk}
+use Rattle.grid.specs.Check.{Passes}
+use Rattle.grid.proofs.CheckLaws.{TestsPass, passes-tests}
+use Rattle.grid.proofs.CountLaws.{degree-of-test, points-of-test, knots-of-test}
+use Rattle.checked.specs.Checked.{Checked}
+use Rattle.checked.proofs.RisingLaws.{order-rising, order-largest}
+use Rattle.checked.proofs.EndLaws.{ends-firsts, ends-lasts, ends-differ}
+use Rattle.checked.proofs.OccurrenceLaws.{repeats-inner, repeats-outer}
+use Rattle.checked.proofs.GridLaws.{grid-each, range-each}
+
+module _ (m : ℕ) (ts : List ℕ) (xs ys : List ℤ) where
+  pub checked-of-tests : TestsPass m ts xs ys → Checked m ts xs ys
+  unfolding knotOrderOk
+  checked-of-tests p =
+      let d = degree-of-test m (p .degree) in
+      let n = points-of-test m xs ys (p .points) in
+      let k = knots-of-test m ts xs (p .knots) in
+      let g = range-each xs ys (p .range) in
+      let rising = order-rising ts (p .order) in
+      let firsts : (a : ℕ) → a ≤ m → getD ts a 0 ≡ firstKnot ts = λ a l. ends-firsts m ts (p .ends) a (omega arith) (omega arith) in
+      let lasts : (a : ℕ) → length xs ≤ a → a < length ts → getD ts a 0 ≡ lastKnot ts = λ a l i. ends-lasts m ts (p .ends) a i (omega arith) in
+      let low = firsts m (omega arith) in
+      let high = lasts (length xs) (omega arith) (omega arith) in
+      let differ = ends-differ m ts (p .ends) in
+      let between = rising 0 (length ts - 1) (omega arith) (omega arith) in
+      record {
+        degreeLow = d .0;
+        degreeHigh = d .1;
+        same = n .0;
+        enough = n .1;
+        most = n .2;
+        knots = k;
+        rising = rising;
+        largest = order-largest 0 ts (p .order);
+        firsts = firsts;
+        lasts = lasts;
+        domain = omega (arith, low, high, between, differ);
+        inner = repeats-inner m ts (p .repeats);
+        outer = repeats-outer m ts (p .repeats);
+        gridX = grid-each xs (g .0);
+        gridY = grid-each ys (g .1);
+      }
+
+  pub checked-of-passes : Passes m ts xs ys → Checked m ts xs ys
+  checked-of-passes h = checked-of-tests (passes-tests m ts xs ys h)

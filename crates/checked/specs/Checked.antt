@@ -1,0 +1,35 @@
+-- What holds of a curve that passes the check (headings "The curve on the grid" and "Numbers of refusal"), over every index and value.
+use mathlib.Core.List.{List}
+use mathlib.Core.Path.{_≡_}
+use Prim.Native.Nat.{ℕ, _+_, _≤_, _<_}
+use lib.IntN.{ℤ, pos, negℤ}
+use lib.ListN.{length, getD}
+use lib.Signed.{_≤ℤ_}
+use Rattle.grid.specs.Limits.{pointsMost, knotMost, coordinateMost}
+use Rattle.grid.specs.Rows.{firstKnot, lastKnot, occurrences}
+
+-- z lies on the grid
+pub record OnGrid (z : ℤ) : Type 0 where
+  pub low : negℤ (pos coordinateMost) ≤ℤ z
+  pub high : z ≤ℤ pos coordinateMost
+
+-- degree m, knots ts, coordinates xs and ys: t_m is `getD ts m 0`, and t_{n+1} is `getD ts (length xs) 0`
+pub record Checked (m : ℕ) (ts : List ℕ) (xs ys : List ℤ) : Type 0 where
+  pub degreeLow : 1 ≤ m
+  pub degreeHigh : m ≤ 3
+  pub same : length xs ≡ length ys
+  pub enough : m + 1 ≤ length xs
+  pub most : length xs ≤ pointsMost
+  pub knots : length ts ≡ length xs + m + 1
+  -- knots never fall, and none is above the largest
+  pub rising : (a b : ℕ) → a ≤ b → b < length ts → getD ts a 0 ≤ getD ts b 0
+  pub largest : (a : ℕ) → a < length ts → getD ts a 0 ≤ knotMost
+  -- the first m+1 knots are equal, the last m+1 are equal, and the domain is not empty
+  pub firsts : (a : ℕ) → a ≤ m → getD ts a 0 ≡ firstKnot ts
+  pub lasts : (a : ℕ) → length xs ≤ a → a < length ts → getD ts a 0 ≡ lastKnot ts
+  pub domain : getD ts m 0 < getD ts (length xs) 0
+  -- a value inside stands at most m times, any value at most m+1 times
+  pub inner : (v : ℕ) → (v ≡ firstKnot ts → ⊥) → (v ≡ lastKnot ts → ⊥) → occurrences v ts ≤ m
+  pub outer : (v : ℕ) → occurrences v ts ≤ m + 1
+  pub gridX : (a : ℕ) → a < length xs → OnGrid (getD xs a (pos 0))
+  pub gridY : (a : ℕ) → a < length ys → OnGrid (getD ys a (pos 0))

@@ -1,0 +1,66 @@
+-- The rows 1 to 7 of the heading "Numbers of refusal", each as a sentence over all entries: it holds where the row applies.
+use mathlib.Core.List.{List, [], _∷_}
+use mathlib.Core.Logic.{_⊎_}
+use mathlib.Core.Path.{_≡_}
+use Prim.Native.Nat.{ℕ, _+_, _≤_, _<_}
+use lib.IntN.{ℤ, pos, negℤ}
+use lib.ListN.{length, getD}
+use lib.Signed.{_<ℤ_}
+use Rattle.grid.specs.Limits.{pointsMost, knotMost, coordinateMost}
+use Rattle.grid.specs.Rows.{firstKnot, lastKnot, occurrences}
+
+-- row 1: the degree is none of 1, 2, 3
+abbrev pub DegreeWrong : ℕ → Type 0
+DegreeWrong m = (m ≡ 1 → ⊥) × (m ≡ 2 → ⊥) × (m ≡ 3 → ⊥)
+
+-- row 2: x and y differ in number, or there are fewer than m+1 points, or more than 1,024
+abbrev pub PointCountWrong : ℕ → List ℤ → List ℤ → Type 0
+PointCountWrong m xs ys = (length xs ≡ length ys → ⊥) ⊎ (length xs < m + 1) ⊎ (pointsMost < length xs)
+
+-- row 3: the number of knots is not points + m + 1
+abbrev pub KnotCountWrong : ℕ → List ℕ → List ℤ → Type 0
+KnotCountWrong m ts xs = length ts ≡ length xs + m + 1 → ⊥
+
+-- row 4: some knot is above 16,383, or has a smaller one after it
+abbrev pub KnotOrderWrong : List ℕ → Type 0
+KnotOrderWrong ts =
+    (k : ℕ) × (k < length ts) × ((knotMost < getD ts k 0) ⊎ ((k + 1 < length ts) × (getD ts (k + 1) 0 < getD ts k 0)))
+
+-- row 5: one of the first m+1 knots is not the first knot, or one of the last m+1 is not the last knot, or first and last are equal
+abbrev pub EndsWrong : ℕ → List ℕ → Type 0
+EndsWrong m ts =
+    ((k : ℕ) × (k < length ts) × (k < m + 1) × (getD ts k 0 ≡ firstKnot ts → ⊥))
+    ⊎ ((k : ℕ) × (k < length ts) × (length ts ≤ k + (m + 1)) × (getD ts k 0 ≡ lastKnot ts → ⊥))
+    ⊎ (firstKnot ts ≡ lastKnot ts)
+
+-- row 6: some value stands too often: an end value more than m+1 times, any other value more than m times
+abbrev pub RepeatsWrong : ℕ → List ℕ → Type 0
+RepeatsWrong m ts =
+    (v : ℕ)
+    × ((((v ≡ firstKnot ts) ⊎ (v ≡ lastKnot ts)) × (m + 1 < occurrences v ts))
+    ⊎ ((v ≡ firstKnot ts → ⊥) × (v ≡ lastKnot ts → ⊥) × (m < occurrences v ts)))
+
+-- z lies beyond the grid
+abbrev pub OffGrid : ℤ → Type 0
+OffGrid z = (z <ℤ negℤ (pos coordinateMost)) ⊎ (pos coordinateMost <ℤ z)
+
+-- row 7: some coordinate, of x or of y, is beyond the grid
+abbrev pub RangeWrong : List ℤ → List ℤ → Type 0
+RangeWrong xs ys =
+    ((k : ℕ) × (k < length xs) × OffGrid (getD xs k (pos 0))) ⊎ ((k : ℕ) × (k < length ys) × OffGrid (getD ys k (pos 0)))
+
+-- the sentence of row n, which is false where there is no row n
+abbrev pub RowApplies : ℕ → ℕ → List ℕ → List ℤ → List ℤ → Type 0
+RowApplies n m ts xs ys =
+    getD
+    (⊥
+    ∷ DegreeWrong m
+    ∷ PointCountWrong m xs ys
+    ∷ KnotCountWrong m ts xs
+    ∷ KnotOrderWrong ts
+    ∷ EndsWrong m ts
+    ∷ RepeatsWrong m ts
+    ∷ RangeWrong xs ys
+    ∷ [])
+    n
+    ⊥

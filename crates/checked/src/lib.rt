@@ -1,0 +1,1 @@
+// What the check says of a curve. There is nothing here that runs.
