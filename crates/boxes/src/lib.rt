@@ -3,6 +3,14 @@ ghost use mathlib.Core.Path.{_≡_};
 ghost use Rattle.boxes.specs.Extent.{lesser, greater};
 ghost use Rattle.boxes.specs.Meeting.{meetsOnAxis};
 
+// A rectangle with closed sides.
+pub struct Rectangle {
+    pub low_x: i32,
+    pub high_x: i32,
+    pub low_y: i32,
+    pub high_y: i32,
+}
+
 fn lesser(a: i32, b: i32) -> i32
     ensures answer { λ r. ⌜ r ≡ lesser a b ⌝ }
 {

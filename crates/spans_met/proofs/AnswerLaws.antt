@@ -12,11 +12,11 @@ use Rattle.grid.specs.Check.{checkNumber}
 use Rattle.grid.specs.Rows.{rectangleOk}
 use Rattle.grid.proofs.ThenLaws.{checkedThen-refused, checkedThen-passed}
 use Rattle.lent.specs.Lent.{over, after}
-use Rattle.spans_met.specs.declared.Rectangle.{Rectangle}
+use Rattle.boxes.specs.declared.Rectangle.{Rectangle}
 use Rattle.spans_met.specs.declared.SpansAnswer.{SpansAnswer}
 use Rattle.spans_met.specs.declared.SpansAnswer.the-variants.{Listed, Refused}
-use Rattle.spans_met.specs.SpansMet.{spanCount, lowKnots, highKnots}
-use Rattle.spans_met.specs.Answer.{metBy, listRefusal, listAnswer}
+use Rattle.span_walk.specs.SpansMet.{spanCount, metBy, lowKnots, highKnots}
+use Rattle.spans_met.specs.Answer.{listRefusal, listAnswer}
 
 -- the four sides of a clamp pass row 14
 abbrev pub sidesOk : Rectangle → Bool

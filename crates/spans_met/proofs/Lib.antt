@@ -1,4 +1,2 @@
--- Laws of the list of spans.
+-- Laws of the list call's answer.
 pub mod AnswerLaws
-pub mod KeepLaws
-pub mod ListingLaws

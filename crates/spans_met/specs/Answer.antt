@@ -9,15 +9,10 @@ use Rattle.refusal.specs.Judging.{unless}
 use Rattle.refusal.specs.Numbers.{accepted, rectangleRefused, roomRefused}
 use Rattle.grid.specs.Check.{checkedThen}
 use Rattle.grid.specs.Rows.{rectangleOk}
-use Rattle.spans_met.specs.SpansMet.{spanCount, spansMet}
-use Rattle.spans_met.specs.declared.Rectangle.{Rectangle}
+use Rattle.span_walk.specs.SpansMet.{spanCount, metBy}
+use Rattle.boxes.specs.declared.Rectangle.{Rectangle}
 use Rattle.spans_met.specs.declared.SpansAnswer.{SpansAnswer}
 use Rattle.spans_met.specs.declared.SpansAnswer.the-variants.{Listed, Refused}
-
--- the spans that may meet the clamp
-abbrev pub metBy : Rectangle → ℕ → List ℕ → List ℤ → List ℤ → List ℕ
-metBy clamp m ts xs ys =
-    spansMet (clamp .«low_x») (clamp .«high_x») (clamp .«low_y») (clamp .«high_y») m ts xs ys
 
 -- the refusal number; `lows` and `highs` are the places of the two lent lists, each as many as there are non-empty spans
 unfoldable pub listRefusal : ℕ → List ℕ → List ℤ → List ℤ → Rectangle → ℕ → ℕ → ℕ

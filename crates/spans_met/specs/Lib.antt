@@ -1,3 +1,2 @@
--- The list of spans that may meet a clamp.
+-- The answer of the list call.
 pub mod Answer
-pub mod SpansMet

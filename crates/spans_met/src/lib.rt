@@ -1,19 +1,10 @@
 // The list of spans that may meet a clamp.
-mod walk;
-
+pub use boxes::Rectangle;
 ghost use mathlib.Core.Path.{_≡_};
 ghost use lib.ListN.{length};
 ghost use Rattle.lent.specs.Lent.{after};
-ghost use Rattle.spans_met.specs.Answer.{metBy, listRefusal, listAnswer};
-ghost use Rattle.spans_met.specs.SpansMet.{lowKnots, highKnots};
-
-// A rectangle with closed sides.
-pub struct Rectangle {
-    pub low_x: i32,
-    pub high_x: i32,
-    pub low_y: i32,
-    pub high_y: i32,
-}
+ghost use Rattle.spans_met.specs.Answer.{listRefusal, listAnswer};
+ghost use Rattle.span_walk.specs.SpansMet.{metBy, lowKnots, highKnots};
 
 // How many spans were listed, or the number of refusal.
 pub enum SpansAnswer {
@@ -44,13 +35,13 @@ pub fn list_spans_met(
         return SpansAnswer::Refused(refusal::RECTANGLE);
     }
     let m = degree as usize;
-    let places = walk::count_spans(knots, m, xs.len());
+    let places = span_walk::count_spans(knots, m, xs.len());
     if lows.len() < places {
         return SpansAnswer::Refused(refusal::ROOM);
     }
     if highs.len() < places {
         return SpansAnswer::Refused(refusal::ROOM);
     }
-    let count = walk::fill(knots, xs, ys, m, clamp, lows, highs);
+    let count = span_walk::fill(knots, xs, ys, m, clamp, lows, highs);
     SpansAnswer::Listed(count)
 }

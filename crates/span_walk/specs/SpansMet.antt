@@ -7,6 +7,7 @@ use lib.Dec.{ltb}
 use lib.IntN.{ℤ}
 use lib.ListN.{length, getD, take, drop}
 use Rattle.boxes.specs.Meeting.{meetsOnAxis}
+use Rattle.boxes.specs.declared.Rectangle.{Rectangle}
 
 -- `count` numbers from i on, rising
 unfoldable pub upFrom : ℕ → ℕ → List ℕ
@@ -43,6 +44,11 @@ spanCount m ts count = length (keep (nonEmpty ts) (spansOf m count))
 unfoldable pub spansMet : ℤ → ℤ → ℤ → ℤ → ℕ → List ℕ → List ℤ → List ℤ → List ℕ
 spansMet lowX highX lowY highY m ts xs ys =
     keep (λ i. nonEmpty ts i && boxMeets lowX highX lowY highY m xs ys i) (spansOf m (length xs))
+
+-- the spans that may meet the clamp
+abbrev pub metBy : Rectangle → ℕ → List ℕ → List ℤ → List ℤ → List ℕ
+metBy clamp m ts xs ys =
+    spansMet (clamp .«low_x») (clamp .«high_x») (clamp .«low_y») (clamp .«high_y») m ts xs ys
 
 -- the low knots of spans, and the high ones
 unfoldable pub lowKnots : List ℕ → List ℕ → List ℕ

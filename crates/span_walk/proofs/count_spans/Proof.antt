@@ -7,12 +7,12 @@ use native.Mathlib.Omega.{arith}
 use borrow.Author.Needs.{needs}
 use borrow.Author.Tests.{lt-ltb, le-ltb}
 use lib.ListN.{length, length-append}
-use Rattle.spans_met.specs.SpansMet.{nonEmpty, upFrom, keep, spanCount}
-use Rattle.spans_met.proofs.KeepLaws.{keep-upTo}
-use Rattle.spans_met.proofs.walk.count_spans.Statement.{statement}
-use Rattle.spans_met.proofs.walk.count_spans.Tie as tie
-use Rattle.spans_met.proofs.walk.count_spans.Reads as reads
-use Rattle.spans_met.proofs.walk.count_spans.Lts as lts
+use Rattle.span_walk.specs.SpansMet.{nonEmpty, upFrom, keep, spanCount}
+use Rattle.span_walk.proofs.KeepLaws.{keep-upTo}
+use Rattle.span_walk.proofs.count_spans.Statement.{statement}
+use Rattle.span_walk.proofs.count_spans.Tie as tie
+use Rattle.span_walk.proofs.count_spans.Reads as reads
+use Rattle.span_walk.proofs.count_spans.Lts as lts
 
 abbrev Inv-loop : tie.InvT-loop
 Inv-loop knots m count so-far₀ k₀ so-far k =

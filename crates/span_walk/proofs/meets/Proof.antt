@@ -7,11 +7,11 @@ use borrow.Author.Needs.{needs}
 use Rattle.boxes.specs.Meeting.{meetsOnAxis}
 use Rattle.signed.proofs.ReadLaws.{number-as-read}
 use borrow.Author.Tests.{le-ltb, lt-ltb}
-use Rattle.spans_met.specs.SpansMet.{boxMeets, carryingOf}
-use Rattle.spans_met.proofs.walk.meets.Statement.{statement}
-use Rattle.spans_met.proofs.walk.meets.Tie as tie
-use Rattle.spans_met.proofs.walk.meets.Reads as reads
-use Rattle.spans_met.proofs.walk.meets.Lts as lts
+use Rattle.span_walk.specs.SpansMet.{boxMeets, carryingOf}
+use Rattle.span_walk.proofs.meets.Statement.{statement}
+use Rattle.span_walk.proofs.meets.Tie as tie
+use Rattle.span_walk.proofs.meets.Reads as reads
+use Rattle.span_walk.proofs.meets.Lts as lts
 use Rattle.boxes.proofs.meets_on_axis.Reads as meets-on-axis-reads
 
 mul-if1 : tie.Need-mul-if1

@@ -1,23 +1,15 @@
 // The walk over the spans of a curve that has passed the check.
-use crate::Rectangle;
+use boxes::Rectangle;
 ghost use mathlib.Core.Path.{_≡_};
 ghost use mathlib.Core.Bool.{_&&_};
 ghost use mathlib.Core.List.{_++_};
 ghost use Prim.Native.Nat.{_+_, _≤_, _<_};
 ghost use lib.ListN.{length, drop};
 ghost use Rattle.lent.specs.Lent.{over};
-ghost use Rattle.spans_met.specs.Answer.{metBy};
-ghost use Rattle.spans_met.specs.SpansMet.{nonEmpty, boxMeets, spanCount, lowKnots, highKnots};
+ghost use Rattle.span_walk.specs.SpansMet.{metBy, nonEmpty, boxMeets, spanCount, lowKnots, highKnots};
 
 // Whether span i is not empty and its box meets the clamp.
-pub(crate) fn meets(
-    knots: &[u16],
-    xs: &[i32],
-    ys: &[i32],
-    m: usize,
-    i: usize,
-    clamp: Rectangle,
-) -> bool
+pub fn meets(knots: &[u16], xs: &[i32], ys: &[i32], m: usize, i: usize, clamp: Rectangle) -> bool
     requires { ⌜ (1 ≤ m) × (m ≤ i) × (i < length (now xs)) × (length (now ys) ≡ length (now xs)) × (i + 1 < length (now knots)) ⌝ }
     ensures answer { λ r. ⌜ r ≡ (nonEmpty (now (knots .entry)) i && boxMeets (clamp .«low_x») (clamp .«high_x») (clamp .«low_y») (clamp .«high_y») m (now (xs .entry)) (now (ys .entry)) i) ⌝ }
 {
@@ -33,7 +25,7 @@ pub(crate) fn meets(
 }
 
 // How many spans are not empty.
-pub(crate) fn count_spans(knots: &[u16], m: usize, count: usize) -> usize
+pub fn count_spans(knots: &[u16], m: usize, count: usize) -> usize
     requires { ⌜ (m ≤ count) × (count < length (now knots)) ⌝ }
     ensures count { λ r. ⌜ r ≡ spanCount m (now (knots .entry)) count ⌝ }
 {
@@ -49,7 +41,7 @@ pub(crate) fn count_spans(knots: &[u16], m: usize, count: usize) -> usize
 }
 
 // Write the two knots of each span that may meet the clamp, and count them.
-pub(crate) fn fill(
+pub fn fill(
     knots: &[u16],
     xs: &[i32],
     ys: &[i32],

@@ -6,7 +6,7 @@ use Prim.Native.Nat.{ℕ, zero, suc, _+_, _-_, _≤_, _<_}
 use native.Mathlib.Nat.{add-suc, add-zero, suc-add}
 use native.Mathlib.Omega.{arith}
 use lib.ListN.{length, length-append}
-use Rattle.spans_met.specs.SpansMet.{upFrom, keep}
+use Rattle.span_walk.specs.SpansMet.{upFrom, keep}
 
 -- one number more stands at the end
 upFrom-next : (m k : ℕ) → upFrom m (suc k) ≡ upFrom m k ++ ((m + k) ∷ [])

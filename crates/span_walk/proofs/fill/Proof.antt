@@ -9,15 +9,15 @@ use borrow.Author.Needs.{needs}
 use lib.IntN.{ℤ}
 use lib.ListN.{length, getD, length-append, length-set}
 use Rattle.lent.specs.Lent.{over}
-use Rattle.spans_met.specs.declared.Rectangle.{Rectangle}
-use Rattle.spans_met.specs.SpansMet.{nonEmpty, boxMeets, upFrom, keep, spanCount, spansMet, lowKnots, highKnots}
-use Rattle.spans_met.proofs.KeepLaws.{keep-upTo, keep-room}
-use Rattle.spans_met.proofs.ListingLaws.{listing-next}
-use Rattle.spans_met.proofs.walk.fill.Statement.{statement}
-use Rattle.spans_met.proofs.walk.fill.Tie as tie
-use Rattle.spans_met.proofs.walk.fill.Reads as reads
-use Rattle.spans_met.proofs.walk.fill.Lts as lts
-use Rattle.spans_met.proofs.walk.meets.Reads as meets-reads
+use Rattle.boxes.specs.declared.Rectangle.{Rectangle}
+use Rattle.span_walk.specs.SpansMet.{nonEmpty, boxMeets, upFrom, keep, spanCount, spansMet, lowKnots, highKnots}
+use Rattle.span_walk.proofs.KeepLaws.{keep-upTo, keep-room}
+use Rattle.span_walk.proofs.ListingLaws.{listing-next}
+use Rattle.span_walk.proofs.fill.Statement.{statement}
+use Rattle.span_walk.proofs.fill.Tie as tie
+use Rattle.span_walk.proofs.fill.Reads as reads
+use Rattle.span_walk.proofs.fill.Lts as lts
+use Rattle.span_walk.proofs.meets.Reads as meets-reads
 
 -- a passed && has its first part passed
 and-left : (a b : Bool) → (a && b) ≡ true → a ≡ true

@@ -1,0 +1,3 @@
+-- Laws of the walk over the spans.
+pub mod KeepLaws
+pub mod ListingLaws

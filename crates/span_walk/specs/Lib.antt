@@ -1,0 +1,2 @@
+-- The spans of a curve whose boxes meet a rectangle.
+pub mod SpansMet
