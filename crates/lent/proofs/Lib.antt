@@ -1,2 +1,4 @@
--- Laws on lists that are lent.
+-- Laws on lists that are lent: their parts, a result over a list, and a result stored entry by entry.
 pub mod ListLaws
+pub mod OverLaws
+pub mod StoreLaws
