@@ -1,3 +1,2 @@
 -- Laws of what a call at a parameter is refused with.
-pub mod SplitLaws
 pub mod ParameterLaws

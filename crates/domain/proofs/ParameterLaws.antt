@@ -1,43 +1,63 @@
 -- What a call at a parameter knows where nothing is refused.
-use mathlib.Core.Bool.{Bool, true, false}
+use mathlib.Core.Bool.{true}
 use mathlib.Core.List.{List}
-use mathlib.Core.Logic.{_⊎_, ⊎-elim}
-use mathlib.Core.Path.{_≡_, refl, sym, _∙_}
+use mathlib.Core.Path.{_≡_, sym, _∙_}
 use Prim.Native.Nat.{ℕ, _+_, _-_, _≤_, _<_}
 use native.Mathlib.Nat.{mul-one}
+use native.Mathlib.Decide.{ℕ-discrete}
 use native.Mathlib.Omega.{arith}
+use borrow.Author.Tests.{eq-eqb, ne-eqb}
 use lib.IntN.{ℤ}
 use lib.ListN.{length, getD}
 use Rattle.refusal.specs.Judging.{unless}
 use Rattle.refusal.specs.Numbers.{accepted, parameterRefused}
 use Rattle.refusal.proofs.JudgingLaws.{unless-accepted}
-use Rattle.grid.specs.Check.{checkedThen, checkNumber, Passes}
+use Rattle.grid.specs.Check.{checkNumber, Passes}
+use Rattle.grid.proofs.CheckLaws.{checkedThen-split, passes-tests}
+use Rattle.grid.proofs.CountLaws.{degree-of-test, points-of-test, knots-of-test}
 use Rattle.span.specs.Span.{spanOf, inDomain}
 use Rattle.span.proofs.SpanLaws.{spanOf-within, inDomain-says}
 use Rattle.domain.specs.Parameter.{parameterNumber}
-use Rattle.domain.proofs.SplitLaws.{checkedThen-splits, passes-counted}
 
 module _ (m : ℕ) (ts : List ℕ) (xs ys : List ℤ) (t : ℕ) where
   -- the curve's number comes first
   pub curve-refused : (checkNumber m ts xs ys ≡ 0 → ⊥) → checkNumber m ts xs ys ≡ parameterNumber m ts xs ys t
   unfolding parameterNumber
-  curve-refused refused =
-      ⊎-elim (λ w. absurd (refused (w .0))) (λ w. sym (w .1))
-      (checkedThen-splits m ts xs ys (unless (inDomain ts m (length xs - 1) t 1) parameterRefused accepted))
+  curve-refused refused = rw (checkedThen-split, ne-eqb (checkNumber m ts xs ys) 0 refused)
 
   -- then the domain is judged
   pub curve-passed : Passes m ts xs ys → parameterNumber m ts xs ys t ≡ unless (inDomain ts m (length xs - 1) t 1) parameterRefused accepted
   unfolding parameterNumber
-  curve-passed h =
-      ⊎-elim (λ w. w .1) (λ w. absurd (omega (arith, w .0, h)))
-      (checkedThen-splits m ts xs ys (unless (inDomain ts m (length xs - 1) t 1) parameterRefused accepted))
+  curve-passed passed = rw (checkedThen-split, eq-eqb (checkNumber m ts xs ys) 0 passed)
 
   -- nothing refused: the curve passes and the domain holds the parameter
   pub parameter-accepted : parameterNumber m ts xs ys t ≡ 0 → Passes m ts xs ys × (inDomain ts m (length xs - 1) t 1 ≡ true)
-  unfolding parameterNumber
-  parameter-accepted h =
-      ⊎-elim (λ w. (w .0, unless-accepted (inDomain ts m (length xs - 1) t 1) 7 0 (sym (w .1) ∙ h) .0)) (λ w. absurd (omega (arith, w .0, w .1, h)))
-      (checkedThen-splits m ts xs ys (unless (inDomain ts m (length xs - 1) t 1) parameterRefused accepted))
+  parameter-accepted h = by (ℕ-discrete (checkNumber m ts xs ys) 0)
+    where
+      by : Dec (checkNumber m ts xs ys ≡ 0) → Passes m ts xs ys × (inDomain ts m (length xs - 1) t 1 ≡ true)
+      by (yes passed) = (passed, unless-accepted (inDomain ts m (length xs - 1) t 1) 7 0 (sym (curve-passed passed) ∙ h) .0)
+      by (no refused) = absurd (refused (curve-refused refused ∙ h))
+
+-- how many points and knots a curve that passes has
+pub record Counted (m : ℕ) (ts : List ℕ) (xs ys : List ℤ) : Type 0 where
+  pub least : 1 ≤ m
+  pub most : m ≤ 3
+  pub alike : length ys ≡ length xs
+  pub enough : m < length xs
+  pub knots : length ts ≡ length xs + m + 1
+
+pub passes-counted : (m : ℕ) (ts : List ℕ) (xs ys : List ℤ) → Passes m ts xs ys → Counted m ts xs ys
+passes-counted m ts xs ys h =
+    let tests = passes-tests m ts xs ys h in
+    let degree = degree-of-test m (tests .degree) in
+    let points = points-of-test m xs ys (tests .points) in
+    record {
+      least = degree .0;
+      most = degree .1;
+      alike = sym (points .0);
+      enough = omega (arith, points .1);
+      knots = knots-of-test m ts xs (tests .knots);
+    }
 
 -- where the span of an accepted parameter stands in its lists
 pub record Within (m : ℕ) (ts : List ℕ) (xs ys : List ℤ) (t i : ℕ) : Type 0 where

@@ -3,8 +3,7 @@ use mathlib.Core.Path.{_≡_, sym, _∙_}
 use native.Mathlib.Omega.{arith}
 use denote.Ref.{now}
 use Rattle.refusal.proofs.JudgingLaws.{test-failed, test-passed}
-use Rattle.domain.proofs.SplitLaws.{passes-counted}
-use Rattle.domain.proofs.ParameterLaws.{curve-refused, curve-passed}
+use Rattle.domain.proofs.ParameterLaws.{curve-refused, curve-passed, passes-counted}
 use borrow.Author.Needs.{needs}
 use Rattle.domain.proofs.check_parameter.Statement.{statement}
 use Rattle.domain.proofs.check_parameter.Tie as tie

@@ -1,0 +1,2 @@
+-- Laws of the carrying coordinates.
+pub mod CarryingLaws

@@ -1,0 +1,2 @@
+-- The carrying coordinates of a parameter.
+pub mod Carrying
