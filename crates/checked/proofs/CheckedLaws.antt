@@ -1,15 +1,16 @@
 -- A curve passes the check exactly when the facts of `Checked` hold of it.
 use mathlib.Core.List.{List}
-use mathlib.Core.Path.{_≡_}
+use mathlib.Core.Path.{_≡_, sym}
 use Prim.Native.Nat.{ℕ, _-_, _≤_, _<_}
 use native.Mathlib.Omega.{arith}
 use lib.IntN.{ℤ}
 use lib.ListN.{length, getD}
 use Rattle.grid.specs.Rows.{firstKnot, lastKnot, knotOrderOk}
 use Rattle.grid.specs.Check.{Passes}
-use Rattle.grid.proofs.CheckLaws.{TestsPass, passes-tests}
+use Rattle.grid.proofs.CheckLaws.{TestsPass, passes-tests, check-accepts}
 use Rattle.grid.proofs.CountLaws.{degree-of-test, points-of-test, knots-of-test}
 use Rattle.checked.specs.Checked.{Checked}
+use Rattle.checked.proofs.RowLaws.{degree-passes, points-pass, knots-pass, order-passes, ends-pass, repeats-pass, range-passes}
 use Rattle.checked.proofs.RisingLaws.{order-rising, order-largest}
 use Rattle.checked.proofs.EndLaws.{ends-firsts, ends-lasts, ends-differ}
 use Rattle.checked.proofs.OccurrenceLaws.{repeats-inner, repeats-outer}
@@ -50,3 +51,21 @@ module _ (m : ℕ) (ts : List ℕ) (xs ys : List ℤ) where
 
   pub checked-of-passes : Passes m ts xs ys → Checked m ts xs ys
   checked-of-passes h = checked-of-tests (passes-tests m ts xs ys h)
+
+  pub passes-of-checked : Checked m ts xs ys → Passes m ts xs ys
+  passes-of-checked c =
+      let lows = c .firsts m (omega arith) in
+      let highs = c .lasts (length xs) (omega arith) (omega (arith, c .knots)) in
+      sym
+      (check-accepts m ts xs ys
+      (degree-passes m (c .degreeLow) (c .degreeHigh))
+      (points-pass m xs ys (c .same) (c .enough) (c .most))
+      (knots-pass m ts xs (c .knots))
+      (order-passes ts (c .rising, c .largest))
+      (ends-pass m ts (
+        (λ k i l. c .firsts k (omega arith)),
+        (λ k i l. c .lasts k (omega (arith, c .knots)) i),
+        (λ e. omega (arith, lows, highs, e, c .domain)),
+      ))
+      (repeats-pass m ts (c .inner, c .outer))
+      (range-passes xs ys (c .gridX, c .gridY)))

@@ -4,4 +4,6 @@ pub mod RisingLaws
 pub mod EndLaws
 pub mod OccurrenceLaws
 pub mod GridLaws
+pub mod RowLaws
 pub mod CheckedLaws
+pub mod SentenceLaws

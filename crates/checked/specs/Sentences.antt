@@ -49,18 +49,18 @@ abbrev pub RangeWrong : List ℤ → List ℤ → Type 0
 RangeWrong xs ys =
     ((k : ℕ) × (k < length xs) × OffGrid (getD xs k (pos 0))) ⊎ ((k : ℕ) × (k < length ys) × OffGrid (getD ys k (pos 0)))
 
--- the sentence of row n, which is false where there is no row n
-abbrev pub RowApplies : ℕ → ℕ → List ℕ → List ℤ → List ℤ → Type 0
-RowApplies n m ts xs ys =
-    getD
-    (⊥
-    ∷ DegreeWrong m
+-- the seven sentences in the order of their rows
+abbrev pub rowSentences : ℕ → List ℕ → List ℤ → List ℤ → List (Type 0)
+rowSentences m ts xs ys =
+    DegreeWrong m
     ∷ PointCountWrong m xs ys
     ∷ KnotCountWrong m ts xs
     ∷ KnotOrderWrong ts
     ∷ EndsWrong m ts
     ∷ RepeatsWrong m ts
     ∷ RangeWrong xs ys
-    ∷ [])
-    n
-    ⊥
+    ∷ []
+
+-- the sentence of row n, counted from 1; it is false where there is no row n
+abbrev pub RowApplies : ℕ → ℕ → List ℕ → List ℤ → List ℤ → Type 0
+RowApplies n m ts xs ys = getD (⊥ ∷ rowSentences m ts xs ys) n ⊥
