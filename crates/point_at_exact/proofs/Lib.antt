@@ -3,3 +3,4 @@ pub mod CellDifferences
 pub mod EntryClass
 pub mod CoordinateNear
 pub mod Controls
+pub mod PointNearLaws
