@@ -1,0 +1,147 @@
+"""The second program itself, held to the cases of document 01 that are worked by hand, and to laws that any right program
+keeps: insertion keeps the curve, joining is the Hermite cubic, removal is what a search over polygons finds."""
+
+import sys
+import unittest
+from fractions import Fraction
+from itertools import product
+from pathlib import Path
+
+sys.dont_write_bytecode = True
+sys.path.insert(0, str(Path(__file__).resolve().parent.parent))
+
+from second_program.clamp_cases import random_fraction
+from second_program.curve import Curve, basis, check, domain, exact_point, point_at, span_of
+from second_program.dice import Dice
+from second_program.expected import WIDE, WORKED_A, WORKED_B
+from second_program.insert_cases import insertable
+from second_program.job_cases import job_of
+from second_program.join_cases import spline_points
+from second_program.joining import join
+from second_program.knots import compact, insert_knot, polygon_with, remove_knot
+from second_program.random_curves import random_curve
+from second_program.record import clampcheck_text, read_job, read_record, record_of
+from second_program.spans import list_spans_met
+
+CLAMPS = [(2, 3, 5, 9), (9, 12, 0, 4), (8, 10, 8, 9)]
+TEXT = "curve degree 3 points 4 spans 1\nclamp 1 may meet 0..4\nclamp 2 clear\nclamp 3 may meet 0..4\n"
+
+
+class WorkedByHand(unittest.TestCase):
+    def test_points(self):
+        for t, place in ((0, (0, 0)), (1, (1.25, 4.5)), (2, (4, 6)), (4, (8, 0))):
+            self.assertEqual(point_at(WORKED_A, t), (0, *place))
+            self.assertEqual(exact_point(WORKED_A, t), place)
+        self.assertEqual(point_at(WORKED_A, 5)[0], 8)
+        for t, place in ((1, (3.5, 6)), (2, (6, 8))):
+            self.assertEqual(point_at(WORKED_B, t), (0, *place))
+            self.assertEqual(exact_point(WORKED_B, t), place)
+
+    def test_insertion(self):
+        number, one = insert_knot(WORKED_B, 1, WIDE)
+        self.assertEqual((number, one.xs, one.ys), (0, [0, 2, 5, 8, 12], [0, 4, 8, 8, 0]))
+        self.assertEqual(insert_knot(WORKED_B._replace(ys=[0, 7, 8, 0]), 1, WIDE)[0], 11)
+        number, two = insert_knot(WORKED_B, 2, WIDE)
+        self.assertEqual((number, two.xs, two.ys), (0, [0, 4, 6, 8, 12], [0, 8, 8, 8, 0]))
+        self.assertEqual([insert_knot(curve, v, WIDE)[0] for curve, v in ((two, 2), (WORKED_B, 0), (WORKED_B, 4))], [9] * 3)
+
+    def test_removal(self):
+        self.assertEqual(remove_knot(WORKED_B, 2, WIDE)[0], 13)
+        number, new = remove_knot(WORKED_B._replace(xs=[0, 4, 10, 12]), 2, WIDE)
+        self.assertEqual((number, new.xs, new.ys), (0, [0, 8, 12], [0, 16, 0]))
+
+    def test_second_pass_is_not_made(self):
+        xs = [3, -2, 1, 3, 4, 4]
+        number, new, removed = compact(Curve(2, [0, 0, 0, 1, 2, 3, 4, 4, 4], xs, xs), WIDE)
+        self.assertEqual((number, removed, new.knots), (0, 1, [0, 0, 0, 1, 2, 4, 4, 4]))
+
+    def test_joining(self):
+        number, new = join([0, 12], [0, 12], [0, 0], [1, 1], [1, -1], WIDE)
+        self.assertEqual((number, new.xs, new.ys), (0, [0, 4, 8, 12], [0, 4, 4, 0]))
+        self.assertEqual(new.knots, [0] * 4 + [12] * 4)
+        self.assertEqual(join([0, 4], [0, 12], [0, 0], [1, 1], [1, -1], WIDE)[0], 11)
+
+    def test_limits(self):
+        line = lambda points: Curve(1, [0, *range(points), points - 1], [0] * points, [0] * points)
+        self.assertEqual([check(line(points)) for points in (1024, 1025)], [0, 2])
+        ends = lambda last: Curve(1, [0, 0, last, last], [0, 1], [0, 1])
+        self.assertEqual([check(ends(last)) for last in (16383, 16384)], [0, 4])
+        far = lambda c: Curve(1, [0, 0, 1, 1], [0, c], [0, 1])
+        self.assertEqual([check(far(c)) for c in (262144, 262145, -262144, -262145)], [0, 7, 0, 7])
+
+    def test_jobs(self):
+        self.assertEqual(clampcheck_text(job_of(WORKED_A, CLAMPS)), (0, TEXT))
+        self.assertEqual(clampcheck_text(b""), (16, "refused 16\n"))
+        self.assertEqual(clampcheck_text(job_of(WORKED_A, []))[1], TEXT[:32])
+        self.assertEqual(read_job(job_of(WORKED_A, CLAMPS), (8, 4, 4, 12)), (0, WORKED_A, CLAMPS))
+        self.assertEqual(read_job(job_of(WORKED_A, CLAMPS), (8, 4, 4, 11))[0], 15)
+        self.assertEqual([list_spans_met(WORKED_A, clamp, (1, 1))[1] for clamp in CLAMPS], [[(0, 4)], [], [(0, 4)]])
+
+
+class Laws(unittest.TestCase):
+    def setUp(self):
+        self.dice = Dice(1)
+
+    def test_basis_adds_up_to_one(self):
+        for _ in range(40):
+            curve = random_curve(self.dice, points=9)
+            for u in (*domain(curve), random_fraction(self.dice, curve)):
+                i, m = span_of(curve, u), curve.degree
+                self.assertEqual(sum(basis(curve.knots, i, j, m, Fraction(u)) for j in range(9)), 1)
+
+    def test_insertion_keeps_the_curve_and_removal_undoes_it(self):
+        for _ in range(40):
+            curve, v = insertable(self.dice)
+            new = insert_knot(curve, v, WIDE)[1]
+            for u in (*domain(curve), v, random_fraction(self.dice, curve)):
+                self.assertEqual(exact_point(curve, u), exact_point(new, u))
+            self.assertEqual(remove_knot(new, v, WIDE), (0, curve))
+
+    def test_joining_is_the_hermite_cubic(self):
+        for _ in range(20):
+            params, px, py, tx, ty = spline_points(self.dice)
+            curve = join(params, px, py, tx, ty, WIDE)[1]
+            i = self.dice.between(0, len(params) - 2)
+            h = params[i + 1] - params[i]
+            u = Fraction(self.dice.between(0, 12), 12)
+            weights = (2 * u**3 - 3 * u**2 + 1, h * (u**3 - 2 * u**2 + u), 3 * u**2 - 2 * u**3, h * (u**3 - u**2))
+            hermite = [
+                sum(w * c for w, c in zip(weights, (p[i], d[i], p[i + 1], d[i + 1]))) for p, d in ((px, tx), (py, ty))
+            ]
+            self.assertEqual(list(exact_point(curve, params[i] + h * u)), hermite)
+
+    def test_records_come_back(self):
+        for _ in range(40):
+            curve = random_curve(self.dice)
+            self.assertEqual(read_record(record_of(curve), WIDE), (0, curve))
+
+    def test_removal_is_what_a_search_finds(self):
+        reach, found = 8, 0
+        for k in range(160):
+            m = 2 + k % 2
+            inner = self.dice.between(1, 3)
+            fewer = [0] * (m + 1) + [4] * (m + 1)
+            points = [self.dice.between(-reach, reach) for _ in range(m + 1)]
+            new = polygon_with(m, fewer, points, inner)
+            if k % 4 and any(q.denominator != 1 for q in new):
+                new = [round(q) for q in new]
+            if any(q.denominator != 1 for q in new):
+                continue
+            axis = [int(q) for q in new]
+            searched = [
+                [axis[0], *middle, axis[-1]]
+                for middle in product(range(-reach, reach + 1), repeat=m - 1)
+                if polygon_with(m, fewer, [axis[0], *middle, axis[-1]], inner) == axis
+            ]
+            curve = Curve(m, sorted(fewer + [inner]), axis, [0] * len(axis))
+            number, smaller = remove_knot(curve, inner, WIDE)
+            if searched:
+                found += 1
+                self.assertEqual((number, smaller.xs), (0, searched[0]))
+            elif number == 0:
+                self.assertTrue(any(abs(x) > reach for x in smaller.xs))
+        self.assertGreater(found, 10)
+
+
+if __name__ == "__main__":
+    unittest.main()

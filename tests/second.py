@@ -1,0 +1,111 @@
+"""A second program for the calls of Tsaghnobir, written from the paper alone, and the cases that both programs answer.
+
+    python3 tests/second.py write            writes crates/vectors/stdin and crates/vectors/stdout
+    python3 tests/second.py compare          makes both anew and compares them with the files, with the demands and counts
+    python3 tests/second.py compare CALL     the same for the cases of one call
+
+The program of crates/vectors runs the cases of `stdin` through the proved library, and the gate holds what it writes to
+`stdout`. SECOND_FAULT=CALL plants one fault in that call here, and the comparison must then fail.
+"""
+
+import sys
+from collections import Counter
+from pathlib import Path
+
+from second_program.cases import cases_of
+from second_program.demands import Broken, try_demands
+from second_program.expected import Unexpected
+from second_program.vectors import CALLS, answer_file, case_file
+
+FOLDER = Path(__file__).resolve().parent.parent / "crates" / "vectors"
+WIRED = CALLS  # the calls that the program of crates/vectors runs
+
+LEAST_CASES = 2000
+LEAST_OF_CALL = 50
+LEAST_OF_REFUSAL = 20
+MOST_LARGE = 40
+LARGE = 256
+MOST_BYTES = 4 * 1024 * 1024
+CHECK = (1, 2, 3, 4, 5, 6, 7)
+REFUSALS = dict(
+    check=CHECK,
+    point_at=CHECK + (8,),
+    carrying=CHECK + (8,),
+    insert_knot=CHECK + (9, 10, 11, 15),
+    remove_knot=CHECK + (12, 13, 15),
+    compact=CHECK + (15,),
+    join_through_points=(17, 7, 11, 18, 15),
+    list_spans_met=CHECK + (14, 15),
+    write_record=CHECK + (15,),
+    read_record=(16,) + CHECK + (15,),
+    read_job=(16,) + CHECK + (14, 15),
+    clampcheck_text=(16,) + CHECK + (14,),
+)
+
+
+def too_few(calls, cases):
+    """What the cases lack, in words."""
+    of_call = Counter(case.call for case in cases)
+    of_refusal = Counter((case.call, case.number) for case in cases)
+    for call in calls:
+        if of_call[call] < LEAST_OF_CALL:
+            yield "%s has %d cases" % (call, of_call[call])
+        for number in REFUSALS[call]:
+            if of_refusal[call, number] < LEAST_OF_REFUSAL:
+                yield "%s has %d cases of refusal %d" % (call, of_refusal[call, number], number)
+    if tuple(calls) == CALLS and len(cases) < LEAST_CASES:
+        yield "there are %d cases in all" % len(cases)
+
+
+def too_many(cases):
+    large = sum(case.points > LARGE for case in cases)
+    if large > MOST_LARGE:
+        yield "%d cases have more than %d points" % (large, LARGE)
+    size = len(case_file(cases)) + len(answer_file(cases))
+    if size > MOST_BYTES:
+        yield "the files have %d bytes" % size
+
+
+def differences(calls, cases):
+    """Where the files are not what is made anew; of a single call, its part of them."""
+    for name, anew in (("stdin", case_file(cases)), ("stdout", answer_file(cases))):
+        kept = (FOLDER / name).read_bytes()
+        same = anew == kept if tuple(calls) == tuple(WIRED) else anew in kept
+        if not same:
+            yield "crates/vectors/%s differs from what is made anew" % name
+
+
+def compare(calls):
+    try:
+        cases = [case for call in calls for case in cases_of(call)]
+        near, inside = try_demands(cases)
+    except (Unexpected, Broken) as fault:
+        return [str(fault)]
+    faults = [*too_few(calls, cases), *too_many(cases), *differences(calls, cases)]
+    if not faults:
+        print("%d cases; %d computed points within 2^-30; %d exact points in clamps" % (len(cases), near, inside))
+    return faults
+
+
+def write():
+    cases = [case for call in WIRED for case in cases_of(call)]
+    FOLDER.mkdir(exist_ok=True)
+    (FOLDER / "stdin").write_bytes(case_file(cases))
+    (FOLDER / "stdout").write_bytes(answer_file(cases))
+
+
+def main(arguments):
+    if arguments == ["write"]:
+        write()
+        return 0
+    if arguments[:1] == ["compare"] and all(call in WIRED for call in arguments[1:]):
+        faults = compare(arguments[1:] or WIRED)
+        for fault in faults:
+            print(fault, file=sys.stderr)
+        return 1 if faults else 0
+    print(__doc__, file=sys.stderr)
+    return 2
+
+
+if __name__ == "__main__":
+    sys.exit(main(sys.argv[1:]))

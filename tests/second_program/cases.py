@@ -1,0 +1,32 @@
+"""The cases of each call: successes and every refusal it can give, with faults that stand together, and results that just
+fit or are one place short. Each call has dice of its own, so its cases do not hang on those of another."""
+
+from . import vectors
+from .clamp_cases import list_spans_met_cases
+from .curve_cases import carrying_cases, check_cases, point_at_cases
+from .dice import Dice
+from .insert_cases import insert_knot_cases
+from .job_cases import clampcheck_text_cases, read_job_cases
+from .join_cases import join_through_points_cases
+from .record_cases import read_record_cases, write_record_cases
+from .remove_cases import compact_cases, remove_knot_cases
+
+SECTIONS = dict(
+    check=check_cases,
+    point_at=point_at_cases,
+    carrying=carrying_cases,
+    insert_knot=insert_knot_cases,
+    remove_knot=remove_knot_cases,
+    compact=compact_cases,
+    join_through_points=join_through_points_cases,
+    list_spans_met=list_spans_met_cases,
+    write_record=write_record_cases,
+    read_record=read_record_cases,
+    read_job=read_job_cases,
+    clampcheck_text=clampcheck_text_cases,
+)
+
+
+def cases_of(call):
+    """Every case of one call, the same on every machine."""
+    return list(SECTIONS[call](Dice(2026 + vectors.CALLS.index(call))))

@@ -1,0 +1,192 @@
+"""How a case and its answer stand in the files; all numbers low byte first.
+
+A case is its length in 4 bytes and a body: the call's number in 1 byte, then the arguments. A list is its count in 4 bytes
+and its entries (u8, u16 or i32); degree, t, v and a capacity are u32, a rectangle four i32, an axis 1 byte (0 is x).
+A lent result list is given by its capacity alone: before the call entry k of it holds 7k + 13 (u16), 9k - 5 (i32) or
+(5k + 3) mod 256 (u8), and the number lent to `carrying` holds 77.
+
+An answer is the refusal number in 4 bytes, 0 for none; after a success the answer's values, counts as u32 and floats by
+their 8 bytes; then every lent result list whole, as it stands after the call. `carrying` has the lent number, then the count
+and entries of the part. The text of `clampcheck` stands behind its number with a byte 0 after it.
+"""
+
+import struct
+from typing import NamedTuple, Optional, Sequence
+
+from . import curve as curves
+from . import joining, knots, record, spans
+from .fault import answering
+
+CALLS = (
+    "check",
+    "point_at",
+    "carrying",
+    "insert_knot",
+    "remove_knot",
+    "compact",
+    "join_through_points",
+    "list_spans_met",
+    "write_record",
+    "read_record",
+    "read_job",
+    "clampcheck_text",
+)
+FORMATS = {"u8": "B", "u16": "H", "i32": "i"}
+
+
+class Case(NamedTuple):
+    call: str
+    number: int
+    body: bytes
+    answer: bytes
+    points: int  # the longest list of points that was handed over
+    curve: Optional[curves.Curve] = None  # what was accepted, with the parameters and rectangles that were asked
+    asked: Sequence = ()
+    clamps: Sequence = ()
+
+
+def u32(*numbers):
+    return struct.pack("<%dI" % len(numbers), *numbers)
+
+
+def entries(kind, numbers):
+    return struct.pack("<%d%s" % (len(numbers), FORMATS[kind]), *numbers)
+
+
+def lent_list(kind, numbers):
+    return u32(len(numbers)) + entries(kind, numbers)
+
+
+def curve_bytes(curve):
+    m, ts, xs, ys = curve
+    return u32(m) + lent_list("u16", ts) + lent_list("i32", xs) + lent_list("i32", ys)
+
+
+def before(kind, k):
+    """What entry k of a lent result list holds before the call."""
+    return {"u8": (5 * k + 3) % 256, "u16": 7 * k + 13, "i32": 9 * k - 5}[kind]
+
+
+def after(kind, room, result):
+    """A lent result list after the call; the result is empty where the call was refused."""
+    return entries(kind, list(result) + [before(kind, k) for k in range(len(result), room)])
+
+
+def case(call, number, arguments, answer, points, curve=None, asked=(), clamps=()):
+    body = bytes([CALLS.index(call) + 1]) + arguments
+    return Case(call, number, body, u32(number) + answer, points, None if number else curve, asked, clamps)
+
+
+def size(curve):
+    return max(len(curve.xs), len(curve.ys))
+
+
+def lists_after(number, curve, room):
+    """The three lent lists of a curve's result."""
+    result = curve if number == 0 else curves.Curve(0, [], [], [])
+    return (
+        after("u16", room[0], result.knots) + after("i32", room[1], result.xs) + after("i32", room[2], result.ys)
+    )
+
+
+@answering
+def check(curve):
+    return case("check", curves.check(curve), curve_bytes(curve), b"", size(curve), curve)
+
+
+@answering
+def point_at(curve, t):
+    number, x, y = curves.point_at(curve, t)
+    answer = struct.pack("<2d", x, y) if number == 0 else b""
+    return case("point_at", number, curve_bytes(curve) + u32(t), answer, size(curve), curve, [t])
+
+
+@answering
+def carrying(curve, t, axis):
+    number, part = curves.carrying(curve, t, axis)
+    arguments = bytes([axis]) + curve_bytes(curve) + u32(t)
+    return case("carrying", number, arguments, lent_list("i32", part), size(curve), curve, [t])
+
+
+def knot_call(call, function, curve, v, room):
+    number, new = function(curve, v, room)
+    counts = u32(len(new.xs)) if number == 0 else b""
+    arguments = curve_bytes(curve) + u32(v, *room)
+    return case(call, number, arguments, counts + lists_after(number, new, room), size(curve), curve)
+
+
+@answering
+def insert_knot(curve, v, room):
+    return knot_call("insert_knot", knots.insert_knot, curve, v, room)
+
+
+@answering
+def remove_knot(curve, v, room):
+    return knot_call("remove_knot", knots.remove_knot, curve, v, room)
+
+
+@answering
+def compact(curve, room):
+    number, new, removed = knots.compact(curve, room)
+    counts = u32(len(new.xs), removed) if number == 0 else b""
+    arguments = curve_bytes(curve) + u32(*room)
+    return case("compact", number, arguments, counts + lists_after(number, new, room), size(curve), curve)
+
+
+@answering
+def join_through_points(params, px, py, tx, ty, room):
+    number, new = joining.join(params, px, py, tx, ty, room)
+    counts = u32(len(new.xs)) if number == 0 else b""
+    arguments = lent_list("u16", params) + b"".join(lent_list("i32", one) for one in (px, py, tx, ty)) + u32(*room)
+    points = max(len(one) for one in (params, px, py, tx, ty))
+    return case("join_through_points", number, arguments, counts + lists_after(number, new, room), points, new)
+
+
+@answering
+def list_spans_met(curve, rectangle, room):
+    number, hits = spans.list_spans_met(curve, rectangle, room)
+    counts = u32(len(hits)) if number == 0 else b""
+    result = hits if number == 0 else []
+    lists = after("u16", room[0], [low for low, _ in result]) + after("u16", room[1], [high for _, high in result])
+    arguments = curve_bytes(curve) + struct.pack("<4i", *rectangle) + u32(*room)
+    return case("list_spans_met", number, arguments, counts + lists, size(curve), curve, (), [rectangle])
+
+
+@answering
+def write_record(curve, room):
+    number, data = record.write_record(curve, room)
+    counts = u32(len(data)) if number == 0 else b""
+    answer = counts + after("u8", room, data if number == 0 else [])
+    return case("write_record", number, curve_bytes(curve) + u32(room), answer, size(curve), curve)
+
+
+@answering
+def read_record(data, room, points):
+    number, curve = record.read_record(data, room)
+    counts = u32(curve.degree, len(curve.xs)) if number == 0 else b""
+    answer = counts + lists_after(number, curve, room)
+    return case("read_record", number, lent_list("u8", list(data)) + u32(*room), answer, points, curve)
+
+
+@answering
+def read_job(data, room, points):
+    number, curve, clamps = record.read_job(data, room)
+    counts = u32(curve.degree, len(curve.xs), len(clamps)) if number == 0 else b""
+    sides = [side for clamp in clamps for side in clamp] if number == 0 else []
+    answer = counts + lists_after(number, curve, room[:3]) + after("i32", room[3], sides)
+    arguments = lent_list("u8", list(data)) + u32(*room)
+    return case("read_job", number, arguments, answer, points, curve, (), clamps)
+
+
+@answering
+def clampcheck_text(data, points):
+    number, text = record.clampcheck_text(data)
+    return case("clampcheck_text", number, lent_list("u8", list(data)), text.encode("ascii") + b"\0", points)
+
+
+def case_file(cases):
+    return b"".join(u32(len(one.body)) + one.body for one in cases)
+
+
+def answer_file(cases):
+    return b"".join(one.answer for one in cases)
