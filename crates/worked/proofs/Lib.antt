@@ -1,0 +1,2 @@
+-- The theorem over the worked examples.
+pub mod WorkedLaws

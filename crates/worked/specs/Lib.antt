@@ -1,0 +1,3 @@
+-- The examples worked by hand.
+pub mod Case
+pub mod Worked
