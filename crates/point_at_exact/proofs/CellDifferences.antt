@@ -1,10 +1,10 @@
 -- The whole differences of the triangle's cells: a whole parameter of a span of never-falling knots lies between the two knots of each cell,
 -- so the differences are natural numbers, and their sum is above zero.
-use mathlib.Core.Path.{_≡_, refl, sym, ap, ap₂, _∙_, subst}
-use mathlib.Core.Bool.{Bool, true, false, not, cond}
+use mathlib.Core.Path.{_≡_, refl, sym, ap, _∙_}
+use mathlib.Core.Bool.{Bool, true, false, cond}
 use mathlib.Core.List.{List}
 use Prim.Native.Nat.{ℕ, zero, suc, _+_, _-_, _*_, _≤_, _<_}
-use native.Mathlib.Nat.{add-zero, sub-zero, le-trans, lt-of-le-of-lt, lt-of-lt-of-le, sub-add-cancel}
+use native.Mathlib.Nat.{add-zero, sub-zero, le-trans, lt-of-le-of-lt, lt-of-lt-of-le}
 use native.Mathlib.Omega.{arith}
 use lib.Dec.{T, ltb, ltb→lt}
 use lib.IntN.{ℤ, pos, negsuc, _-ℤ_}
@@ -46,6 +46,9 @@ between ts ps m i t c r j R l h =
 -- the sum of the two differences is w - t_j
 pub differences-sum : (w t l : ℕ) → l ≤ t → t ≤ w → (w - t) + (t - l) ≡ w - l
 differences-sum w t l a b = omega arith
+
+pub differences-above : (w t l : ℕ) → l ≤ t → t ≤ w → l < w → 0 < (w - t) + (t - l)
+differences-above w t l a b c = omega arith
 
 -- a difference of integers that is not negative
 pub natural-difference : (a b : ℕ) → b ≤ a → pos a -ℤ pos b ≡ pos (a - b)

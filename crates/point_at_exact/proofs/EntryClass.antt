@@ -1,5 +1,5 @@
 -- The exact triangle in naturals is the exact triangle over the rational numbers.
-use mathlib.Core.Path.{_≡_, refl, sym, ap, ap₂, _∙_}
+use mathlib.Core.Path.{_≡_, sym, ap, ap₂, _∙_}
 use mathlib.Core.List.{List}
 use Prim.Native.Nat.{ℕ, zero, suc, _+_, _-_, _≤_, _<_}
 use native.Mathlib.Nat.{sub-add-cancel, le-of-lt}
@@ -17,7 +17,7 @@ use Rattle.rounding.proofs.Ratio.{Ratio, cellRatio, Bounded}
 use Rattle.rounding.proofs.WholeClass.{wholeClass, whole-sum}
 use Rattle.rounding.proofs.RatioClass.{asFraction, whole-ratio, cell-class}
 use Rattle.rounding.proofs.TriangleNear.{exactEntry}
-use Rattle.point_at_exact.proofs.CellDifferences.{leftOf, rightOf, Between, between, differences-sum}
+use Rattle.point_at_exact.proofs.CellDifferences.{leftOf, rightOf, between, differences-sum, differences-above}
 
 -- w - t among the rational numbers
 pub whole-sub : (w t : ℕ) → t ≤ w → sub rationalOperations (wholeClass w) (wholeClass t) ≡ wholeClass (w - t)
@@ -37,9 +37,6 @@ cell-exact w t l p q a b D K J =
     (plus (times (sub rationalOperations (wholeClass w) (wholeClass t)) (class (asFraction p))) (times (sub rationalOperations (wholeClass t) (wholeClass l)) (class (asFraction q)))))
     (ap wholeClass (differences-sum w t l a b) ∙ sym (whole-sub w l (omega arith)))
 
-sum-above : (w t l : ℕ) → l ≤ t → t ≤ w → l < w → 0 < (w - t) + (t - l)
-sum-above w t l a b c = omega arith
-
 -- every entry
 pub entry-class : (ts : List ℕ) (ps : List ℤ) (m i t : ℕ) → Carried ts ps m i t 1
     → (C : ℕ) → ((r j : ℕ) → r ≤ m → i - m + r ≤ j → j ≤ i → Bounded C (exactEntry (leftOf m ts t) (rightOf ts t) (λ k. getD ps k (pos 0)) r j))
@@ -57,7 +54,7 @@ entry-class ts ps m i t c C b (suc r) j R l h =
     let before : i - m + r ≤ j - 1 = omega arith in
     let back : j - 1 ≤ i = omega arith in
     let here : i - m + r ≤ j = omega arith in
-    cell-exact w t z p q (g .from) (g .to) (sum-above w t z (g .from) (g .to) (g .some)) (b r (j - 1) (le-of-lt R) before back .above-zero) (b r j (le-of-lt R) here h .above-zero)
+    cell-exact w t z p q (g .from) (g .to) (differences-above w t z (g .from) (g .to) (g .some)) (b r (j - 1) (le-of-lt R) before back .above-zero) (b r j (le-of-lt R) here h .above-zero)
     ∙ ap₂ (λ (x y : ℚ). cell rationalOperations (wholeClass w) (wholeClass t) (wholeClass z) x y)
     (entry-class ts ps m i t c C b r (j - 1) (le-of-lt R) before back)
     (entry-class ts ps m i t c C b r j (le-of-lt R) here h)

@@ -2,14 +2,13 @@
 use mathlib.Core.Bool.{Bool, true, cond}
 use mathlib.Core.Path.{_≡_, refl, sym, ap, _∙_, subst}
 use mathlib.Core.List.{List}
-use Prim.Native.Nat.{ℕ, zero, suc, _+_, _-_, _*_, _≤_, _<_}
-use native.Mathlib.Nat.{le-refl, le-trans, mul-one}
+use Prim.Native.Nat.{ℕ, _+_, _-_, _≤_, _<_}
+use native.Mathlib.Nat.{le-trans}
 use native.Mathlib.Omega.{arith}
 use lib.Dec.{eqb, lit≤, leb→le}
-use lib.IntN.{ℤ, pos, negsuc, natAbs, negℤ}
+use lib.IntN.{ℤ, pos, negsuc, natAbs}
 use lib.ListN.{length, getD}
-use lib.Signed.{_≤ℤ_}
-use Rattle.grid.specs.Limits.{coordinateMost, knotMost}
+use Rattle.grid.specs.Limits.{coordinateMost}
 use Rattle.grid.specs.Check.{Passes}
 use Rattle.checked.specs.Checked.{Checked, OnGrid}
 use Rattle.checked.proofs.CheckedLaws.{checked-of-passes}
@@ -23,7 +22,7 @@ use Rattle.span.proofs.SpanLaws.{spanOf-is, span-holds, inDomain-says}
 use Rattle.exact.specs.ExactPoint.{exactCoordinate}
 use Rattle.exact.proofs.HullLaws.{Carried}
 use Rattle.triangle.specs.FloatTriangle.{coordinateOf}
-use Rattle.rounding.proofs.Binary64.{largestCoordinate, largestDifference}
+use Rattle.rounding.proofs.Binary64.{largestCoordinate}
 use Rattle.point_at_exact.specs.NearExact.{NearExact}
 use Rattle.point_at_exact.specs.PointNear.{PointNear, PointNearExact}
 use Rattle.point_at_exact.proofs.CoordinateNear.{coordinate-near}

@@ -1,6 +1,6 @@
 -- A computed coordinate near an exact one (heading "The point at a parameter"): it is finite, and its fraction differs from the
 -- exact fraction by less than 2 ^ -30 of a grid step.
-use Prim.Native.Nat.{ℕ, _^_}
+use Prim.Native.Nat.{_^_}
 use lib.IntN.{pos}
 use lib.Dec.{T}
 use lib.Ieee.{Float}

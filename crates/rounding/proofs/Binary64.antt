@@ -1,13 +1,13 @@
 -- The laws of rows and triangles at binary64 (heading "The point at a parameter"): coordinates up to 2 ^ 18 in size, differences up to 2 ^ 22,
 -- at most three rows. A row adds at most 2 ^ -32 of a grid step, so three rows stay below 2 ^ -30.
 use mathlib.Core.Path.{_≡_, refl}
-use Prim.Native.Nat.{ℕ, suc, _+_, _*_, _^_, _≤_, _<_}
+use Prim.Native.Nat.{ℕ, _+_, _*_, _^_, _≤_, _<_}
 use native.Mathlib.Nat.{le-refl, le-trans, lt-of-le-of-lt, add-le-add, mul-le-mul-right}
 use lib.IntN.{ℤ, pos}
 use lib.Dec.{T, lit≤, lit<}
 use lib.Ieee.{Float, binary64, low}
 use lib.Ieee.Scale.{finite}
-use Rattle.fractions.specs.Fraction.{Fraction, over}
+use Rattle.fractions.specs.Fraction.{over}
 use Rattle.fractions.specs.Order.{DistanceBelow}
 use Rattle.triangle.specs.FloatCell.{floatCell}
 use Rattle.rounding.proofs.CellError.{Room, cellIn}
@@ -47,22 +47,17 @@ pub binary64-near : (rows first last : ℕ) (left right : ℕ → ℕ → ℕ) (
 binary64-near rows first last left right zs entries few t =
     triangle-near binary64 largestSize largestDifference rowError largestCoordinate rows first last left right zs entries binary64-room (lit≤ tt) (size-room rows few) t
 
--- finite, and less than 2 ^ -30 from the fraction
-pub record WithinBound (x : Float) (a : Fraction) : Type 0 where
-  pub is-finite : T (finite x)
-  pub distance : DistanceBelow (floatFraction x) a (over (pos 1) (2 ^ 30))
-
 -- every entry of a triangle of at most three rows is finite and differs from the exact entry by less than 2 ^ -30
 pub triangle-distance : (rows first last : ℕ) (left right : ℕ → ℕ → ℕ) (zs : ℕ → ℤ) (entries : ℕ → ℕ → Float) → rows ≤ 3
     → Triangle binary64 largestCoordinate largestDifference rows first last left right zs entries
-    → (r j : ℕ) → r ≤ rows → first + r ≤ j → j ≤ last → WithinBound (entries r j) (asFraction (exactEntry left right zs r j))
+    → (r j : ℕ) → r ≤ rows → first + r ≤ j → j ≤ last → T (finite (entries r j)) × DistanceBelow (floatFraction (entries r j)) (asFraction (exactEntry left right zs r j)) (over (pos 1) (2 ^ 30))
 triangle-distance rows first last left right zs entries few t r j R l h =
     let q = exactEntry left right zs r j in
     let e : EntryNear binary64 largestCoordinate (r * rowError) (entries r j) q = binary64-near rows first last left right zs entries few t r j R l h in
     let a : Apart (2 ^ 30) (entries r j) q =
     near-apart binary64 (r * rowError) (2 ^ 30) (entries r j) q
     (lt-of-le-of-lt (mul-le-mul-right (2 ^ 30) (mul-le-mul-right rowError (le-trans R few))) (lit< tt)) (e .bounded .above-zero) (e .near) in
-    record { is-finite = a .is-finite; distance = apart-distance (2 ^ 30) (entries r j) q (lit< tt) (e .bounded .above-zero) a }
+    (a .is-finite, apart-distance (2 ^ 30) (entries r j) q (lit< tt) (e .bounded .above-zero) a)
 
 -- differences counted in 256ths leave the cell's bits as they are
 pub cell-in-256ths : (a b : ℕ) (l r : Float) → 0 < a + b → (a + b) * 256 ≤ largestDifference → Sized binary64 largestSize l → Sized binary64 largestSize r

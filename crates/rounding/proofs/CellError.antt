@@ -1,17 +1,16 @@
 -- The cell of the triangle, computed in any format from floats of at most M units: it is finite, and it is the exact cell
 -- of those floats within H units. M bounds the floats, D the differences, H what one row may add; `Room` says what the format must leave them.
-use mathlib.Core.Path.{_≡_, refl, sym, ap, _∙_, subst, subst₂}
+use mathlib.Core.Path.{_≡_, sym, ap, _∙_, subst, subst₂}
 use mathlib.Core.Bool.{Bool, false}
-use Prim.Native.Nat.{ℕ, suc, _+_, _*_, _^_, _≤_, _<_}
-use native.Mathlib.Nat.{le-trans, le-of-eq, lt-of-le-of-lt, mul-add, mul-le-mul-left, mul-le-mul-right, mul-le-mul, le-of-mul-le-mul-left, le-of-mul-le-mul-right, zero-lt-suc}
+use Prim.Native.Nat.{ℕ, _+_, _*_, _^_, _≤_, _<_}
+use native.Mathlib.Nat.{le-trans, lt-of-le-of-lt, mul-add, mul-le-mul-left, mul-le-mul-right, mul-le-mul, zero-lt-suc}
 use native.Mathlib.Omega.{arith}
 use lib.IntN.{pos}
 use lib.Pow.{pow-pos}
-use lib.Ieee.{Float, Format, prec, low, ofInt, add, mul, div}
+use lib.Ieee.{Float, Format, prec, ofInt, add, mul, div}
 use lib.Ieee.Back.{round-whole}
-use lib.Ieee.Exact.{HasValue}
 use lib.Ieee.Scale.{overflow}
-use Rattle.rounding.proofs.RoundError.{Within, roundUnits, gridUnits, grid-within, grid-coarse, round-value}
+use Rattle.rounding.proofs.RoundError.{Within, gridUnits, grid-within, grid-coarse, whole-coarse, round-value}
 use Rattle.rounding.proofs.FloatUnits.{InUnits, IsWhole, mul-units, add-units, div-units, sumSign, sumSize}
 use Rattle.rounding.proofs.SignedError.{Close, plus, minus, within-close, within-one, close-chain, close-cancel, close-more, plus-times, minus-times, IsSum, sum-exact}
 
@@ -100,9 +99,6 @@ right-part a b D h = omega arith
 low-product : (D M o w : ℕ) → 8 * (D * M) + 11 < o → w ≤ 2 * (D * M) + 1 → w < o
 low-product D M o w h k = omega arith
 
-self : (n : ℕ) → n ≤ n * 1
-self n = omega arith
-
 self-times : (y d : ℕ) → 0 < d → y ≤ y * d
 self-times y d P =
     let m : y * 1 ≤ y * d = mul-le-mul-left y P in
@@ -115,8 +111,8 @@ cell-error f M D H a b l r s u t v room P A hu hv L R =
     let o = overflow f in
     let w = gridUnits f (a * u) 1 in
     let x = gridUnits f (b * v) 1 in
-    let hw : w ≤ 2 * (a * u) + 1 = grid-coarse f (a * u) 1 (a * u) (zero-lt-suc 0) (self (a * u)) in
-    let hx : x ≤ 2 * (b * v) + 1 = grid-coarse f (b * v) 1 (b * v) (zero-lt-suc 0) (self (b * v)) in
+    let hw : w ≤ 2 * (a * u) + 1 = whole-coarse f (a * u) in
+    let hx : x ≤ 2 * (b * v) + 1 = whole-coarse f (b * v) in
     let Pv : InUnits f (mul f (ofInt f (pos a)) l) s w =
     subst (λ (k : Float). InUnits f k s w) (sym (mul-units f (ofInt f (pos a)) l a s u (ofInt-whole f a (le-trans (left-part a b D A) (room .cast))) L))
     (round-value f s (a * u) 1 (low-product D M o w (room .high) (product-low D M a u w (left-part a b D A) hu hw))) in
@@ -127,7 +123,7 @@ cell-error f M D H a b l r s u t v room P A hu hv L R =
     let z = sumSize s w t x in
     let is = sum-exact s w t x in
     let y = gridUnits f z 1 in
-    let hy : y ≤ 2 * z + 1 = grid-coarse f z 1 z (zero-lt-suc 0) (self z) in
+    let hy : y ≤ 2 * z + 1 = whole-coarse f z in
     let q = gridUnits f y (a + b) in
     let hq : q ≤ 2 * y + 1 = grid-coarse f y (a + b) y P (self-times y (a + b) P) in
     let lows = sizes-low D M a b u v w x z y q A hu hv hw hx (is .1) hy hq in

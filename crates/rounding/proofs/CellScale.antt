@@ -2,18 +2,18 @@
 -- exactly, since they are whole numbers of units, and the quotient sees the same fraction.
 use mathlib.Core.Path.{_≡_, refl, sym, ap, ap₂, _∙_, subst}
 use mathlib.Core.Bool.{Bool, true, false, not, _&&_, Bool·beq, cond}
-use Prim.Native.Nat.{ℕ, suc, _+_, _-_, _*_, _/_, _^_, _≤_, _<_}
-use native.Mathlib.Nat.{le-trans, le-of-eq, le-of-lt, lt-of-lt-of-le, lt-of-le-of-lt, mul-one, one-mul, mul-comm, mul-assoc, mul-right-comm, mul-add, add-mul, mul-sub, mul-pos, mul-le-mul-left, mul-le-mul-right, mul-le-mul, eq-of-mul-eq-mul-right, mul-div-cancel, zero-lt-suc}
+use Prim.Native.Nat.{ℕ, _+_, _-_, _*_, _/_, _^_, _≤_, _<_}
+use native.Mathlib.Nat.{le-trans, le-of-eq, le-of-lt, lt-of-lt-of-le, lt-of-le-of-lt, mul-one, one-mul, mul-comm, mul-assoc, mul-right-comm, add-mul, mul-sub, mul-pos, mul-le-mul-left, mul-le-mul-right, mul-le-mul, eq-of-mul-eq-mul-right, mul-div-cancel, zero-lt-suc}
 use native.Mathlib.Omega.{arith}
 use lib.IntN.{pos}
 use lib.Dec.{T, ltb, leb, leb→le, nleb→lt}
 use lib.Pow.{pow-pos, pow-mono}
-use lib.Ieee.{Float, nan, inf, fin, Format, prec, low, up, down, size, ofInt, add, mul, div}
+use lib.Ieee.{Float, nan, inf, fin, Format, prec, low, down, size, ofInt, add, mul, div}
 use lib.Ieee.Digits.{size-lt}
 use lib.Ieee.Fits.{down-pos}
 use lib.Ieee.Exact.{HasValue, round-exact}
 use lib.Ieee.Scale.{grid-scale, overflow, round-same}
-use Rattle.rounding.proofs.RoundError.{roundUnits, gridUnits, grid-coarse, round-value}
+use Rattle.rounding.proofs.RoundError.{roundUnits, gridUnits, whole-coarse, round-value}
 use Rattle.rounding.proofs.FloatUnits.{InUnits, mul-units, add-units, div-units, sumSign, sumSize, ltb-over}
 use Rattle.rounding.proofs.SignedError.{sum-exact}
 use Rattle.rounding.proofs.CellError.{Room, cellIn, ofInt-whole}
@@ -51,14 +51,14 @@ round-scaled f s n k h = go (leb (prec f) z) (leb→le (prec f) z) (nleb→lt (p
         → InUnits f (roundUnits f s (n * 2 ^ k) 1) s (gridUnits f n 1 * 2 ^ k)
     go true y x =
         subst (λ (w : ℕ). InUnits f (roundUnits f s (n * 2 ^ k) 1) s w) (grid-scale f n (1 * 2 ^ low f) k (mul-pos (zero-lt-suc 0) (pow-pos (low f))) (y tt))
-        (round-value f s (n * 2 ^ k) 1 (lt-of-le-of-lt (grid-coarse f (n * 2 ^ k) 1 (n * 2 ^ k) (zero-lt-suc 0) (le-of-eq (sym (mul-one (n * 2 ^ k))))) h))
+        (round-value f s (n * 2 ^ k) 1 (lt-of-le-of-lt (whole-coarse f (n * 2 ^ k)) h))
     go false y x =
         let small : n < 2 ^ prec f = lt-of-lt-of-le (subst (λ (q : ℕ). q < 2 ^ size (n * 2 ^ low f / (1 * 2 ^ low f))) (whole-part f n) (size-lt (n * 2 ^ low f / (1 * 2 ^ low f)))) (pow-mono (le-of-lt (x tt))) in
         let lows = twice n (2 ^ k) (overflow f) (pow-pos k) h in
         let at-one : InUnits f (roundUnits f s n 1) s n =
         subst (λ (q : ℕ). InUnits f (roundUnits f s q 1) s q) (mul-one n) (units-exact f s n 0 small (subst (λ (q : ℕ). q < overflow f) (sym (mul-one n)) (lows .0))) in
         let is : gridUnits f n 1 ≡ n =
-        value-unique (roundUnits f s n 1) s s (gridUnits f n 1) n (2 ^ low f) (round-value f s n 1 (lt-of-le-of-lt (grid-coarse f n 1 n (zero-lt-suc 0) (le-of-eq (sym (mul-one n)))) (lows .2))) at-one in
+        value-unique (roundUnits f s n 1) s s (gridUnits f n 1) n (2 ^ low f) (round-value f s n 1 (lt-of-le-of-lt (whole-coarse f n) (lows .2))) at-one in
         subst (λ (w : ℕ). InUnits f (roundUnits f s (n * 2 ^ k) 1) s (w * 2 ^ k)) (sym is) (units-exact f s n k small (lows .1))
 
 -- ---- the sum
@@ -113,9 +113,6 @@ part-one n k D h =
     let g : n * 1 ≤ n * 2 ^ k = mul-le-mul-left n (pow-pos k) in
     omega arith
 
-self : (n : ℕ) → n ≤ n * 1
-self n = le-of-eq (sym (mul-one n))
-
 -- ---- the two chains side by side
 -- a product by a · 2 ^ k is the product by a, 2 ^ k times
 product-scaled : (f : Format) (M D H a k : ℕ) (l : Float) (s : Bool) (u : ℕ) → Room f M D H → a * 2 ^ k ≤ D → u ≤ M → InUnits f l s u
@@ -138,7 +135,7 @@ sum-scaled f M D H a b k l r s u t v room N P A hu hv L R =
     (ap₂ (λ (g : Bool) (n : ℕ). roundUnits f g n 1) (sym (sign-scaled s t w x c (pow-pos k))) (sym (size-scaled s t w x c (pow-pos k)))
     ∙ sym (add-units f (mul f (ofInt f (pos (a * c))) l) (mul f (ofInt f (pos (b * c))) r) s (w * c) t (x * c) left right))
     (round-scaled f (sumSign s w t x) (sumSize s w t x) k
-    (sum-fits D M a b u v w x (sumSize s w t x) c (overflow f) N P A hu hv (grid-coarse f (a * u) 1 (a * u) (zero-lt-suc 0) (self (a * u))) (grid-coarse f (b * v) 1 (b * v) (zero-lt-suc 0) (self (b * v)))
+    (sum-fits D M a b u v w x (sumSize s w t x) c (overflow f) N P A hu hv (whole-coarse f (a * u)) (whole-coarse f (b * v))
     (sum-exact s w t x .1) (room .high)))
 
 quotient-scaled : (f : Format) (M D H a b k : ℕ) (l r : Float) (s : Bool) (u : ℕ) (t : Bool) (v : ℕ) → Room f M D H → 0 < M → 0 < a + b → (a + b) * 2 ^ k ≤ D → u ≤ M → v ≤ M → InUnits f l s u → InUnits f r t v

@@ -1,6 +1,6 @@
 -- From units back to fractions: a float that is within e units of an exact number differs from it by less than 1 / t, wherever e · t
 -- is below the number of units in 1. All by cross-multiplying, with the float's own upper and lower number.
-use mathlib.Core.Path.{_≡_, refl, sym, ap, _∙_, subst}
+use mathlib.Core.Path.{_≡_, sym, ap, _∙_, subst}
 use mathlib.Core.Bool.{Bool, true, false}
 use Prim.Native.Nat.{ℕ, _+_, _*_, _^_, _≤_, _<_}
 use native.Mathlib.Nat.{le-trans, le-of-eq, lt-of-le-of-lt, lt-of-lt-of-le, zero-mul, mul-pos, mul-le-mul-right, mul-lt-mul-of-pos-right, lt-of-mul-lt-mul-right, add-lt-add-of-le-of-lt, le-refl}

@@ -1,20 +1,20 @@
 -- A float and an exact ratio that differ by less than 1 / t, said with fractions: the float's own fraction, compared by cross-multiplying.
-use mathlib.Core.Path.{_≡_, refl, sym, ap, ap₂, _∙_, subst}
+use mathlib.Core.Path.{_≡_, refl, sym, subst}
 use mathlib.Core.Bool.{Bool, true, false, not, cond}
 use mathlib.Core.List.{[], _∷_}
 use Prim.Native.Nat.{ℕ, zero, suc, _+_, _-_, _*_, _≤_, _<_}
-use native.Mathlib.Nat.{add-zero, one-mul, mul-comm, mul-pos, zero-lt-suc}
+use native.Mathlib.Nat.{mul-pos, zero-lt-suc}
 use native.Mathlib.Omega.{arith}
 use lib.Dec.{T, ltb, lt→ltb, nltb→le}
-use lib.IntN.{ℤ, pos, negsuc, negℤ, subℕ, _+ℤ_, _-ℤ_, _*ℤ_, +ℤ-idl, +ℤ-idr}
-use lib.Signed.{ltZ, _<ℤ_}
+use lib.IntN.{ℤ, pos, negsuc, negℤ, _+ℤ_, _-ℤ_, _*ℤ_, +ℤ-idl, +ℤ-idr}
+use lib.Signed.{ltZ}
 use lib.Ieee.{Float, nan, inf, fin, up}
 use lib.Ieee.Fits.{down-pos}
 use Rattle.algebra.specs.Operations.{sub}
-use Rattle.algebra.proofs.Expressions.{var, lit, _⊕_, _⊗_, _⊖_, minus}
+use Rattle.algebra.proofs.Expressions.{var, _⊕_, _⊗_, _⊖_, minus}
 use Rattle.algebra.proofs.Solver.{ring}
 use Rattle.algebra.proofs.IntegerRing.{integerRing}
-use Rattle.fractions.specs.Fraction.{Fraction, lower, over, sum, negation, fractionOperations}
+use Rattle.fractions.specs.Fraction.{over, sum, negation, fractionOperations}
 use Rattle.fractions.specs.Order.{Below, DistanceBelow}
 use Rattle.fractions.proofs.FractionLaws.{over-lower}
 use Rattle.rounding.specs.FloatFraction.{upperOf, lowerOf, floatFraction}

@@ -1,14 +1,13 @@
 -- Product by a whole number, sum and quotient by a whole number, of floats that are known in units of the format's smallest
 -- value: each is one rounding of a fraction of units. A float's size in units is `HasValue x s u (2 ^ low f)`.
 use mathlib.Core.Path.{_≡_, refl, sym, ap, _∙_, subst}
-use mathlib.Core.Bool.{Bool, true, false, not, _&&_, Bool·beq, cond}
-use Prim.Native.Nat.{ℕ, zero, suc, _+_, _-_, _*_, _^_, _≤_, _<_}
-use native.Mathlib.Nat.{lt-irrefl, mul-comm, mul-assoc, mul-left-comm, mul-one, one-mul, add-mul, mul-sub, mul-pos, zero-mul, mul-mul-mul-comm, mul-right-comm, mul-lt-mul-of-pos-right, lt-of-mul-lt-mul-right, zero-lt-suc}
-use lib.IntN.{ℤ}
+use mathlib.Core.Bool.{Bool, true, false, _&&_, Bool·beq, cond}
+use Prim.Native.Nat.{ℕ, _+_, _-_, _*_, _^_, _<_}
+use native.Mathlib.Nat.{lt-irrefl, mul-comm, mul-assoc, mul-one, one-mul, add-mul, mul-sub, mul-pos, mul-mul-mul-comm, mul-right-comm, mul-lt-mul-of-pos-right, lt-of-mul-lt-mul-right, zero-lt-suc}
 use lib.Dec.{T, ltb, eqb, ltb→lt, lt→ltb, eqb→eq}
 use lib.Pow.{pow-pos}
 use lib.Ieee.{Float, nan, inf, fin, Format, low, unlike, up, down, round, sum, add, mul, div}
-use lib.Ieee.Fits.{up-pos, down-pos}
+use lib.Ieee.Fits.{down-pos}
 use lib.Ieee.Exact.{HasValue}
 use lib.Ieee.Positive.{first-pos}
 use lib.Ieee.Scale.{round-same}

@@ -1,7 +1,7 @@
 -- A ratio of naturals as a fraction and as a rational number: the cell of ratios is the cell of rational numbers.
 use mathlib.Core.Path.{_≡_, refl, sym, ap, ap₂, _∙_}
 use mathlib.Core.List.{[], _∷_}
-use Prim.Native.Nat.{ℕ, zero, suc, _+_, _*_, _<_}
+use Prim.Native.Nat.{ℕ, _+_, _*_, _<_}
 use native.Mathlib.Nat.{mul-pos}
 use lib.IntN.{ℤ, pos, negsuc, _-ℤ_, +ℤ-idl, +ℤ-idr}
 use Rattle.algebra.specs.Operations.{sub, div}

@@ -1,15 +1,15 @@
 -- One rounding moves a number by at most one part in 2 ^ prec of it plus one unit, a unit being the format's smallest value
 -- 2 ^ -low. A fraction of units n / c is handed to `round` as n over c · 2 ^ low, and `gridUnits` is what comes back, in units.
 use mathlib.Core.Path.{_≡_, sym, ap, _∙_, subst}
-use mathlib.Core.Logic.{_⊎_, inl, inr}
+use mathlib.Core.Logic.{inl, inr}
 use mathlib.Core.Bool.{Bool, not}
-use Prim.Native.Nat.{ℕ, zero, suc, _+_, _-_, _*_, _/_, _%_, _^_, _≤_, _<_, compare, Ordering, Ordering·lt, Ordering·eq, Ordering·gt}
-use native.Mathlib.Nat.{le-trans, le-of-eq, lt-of-le-of-lt, mul-comm, mul-assoc, mul-left-comm, mul-le-mul-right, mul-le-mul-left, le-of-mul-le-mul-right, mul-pos, mod-lt, div-add-mod', eq-zero-or-pos, pow-succ', le-div-iff-mul-le, mul-one}
+use Prim.Native.Nat.{ℕ, suc, _+_, _-_, _*_, _/_, _%_, _^_, _≤_, _<_, compare, Ordering, Ordering·lt, Ordering·eq, Ordering·gt}
+use native.Mathlib.Nat.{le-trans, le-of-eq, mul-le-mul-right, mul-le-mul-left, le-of-mul-le-mul-right, mul-pos, mod-lt, div-add-mod', eq-zero-or-pos, pow-succ', le-div-iff-mul-le, mul-one, zero-lt-suc}
 use native.Mathlib.Omega.{arith}
 use lib.Dec.{T, isLe, isEq, eqb, leb→le, nleb→lt, eqb→eq, eqb-refl}
 use lib.Arith.{lt-of-le-ne}
 use lib.Pow.{pow-add, pow-pos}
-use lib.Ieee.{Float, Format, prec, low, size, nearest, units, round}
+use lib.Ieee.{Float, Format, prec, low, size, nearest, round}
 use lib.Ieee.Digits.{size-reaches}
 use lib.Ieee.Fits.{round-is, two, two-le-pos}
 use lib.Ieee.Exact.{HasValue, units-val}
@@ -118,6 +118,11 @@ coarse W w c n B P C h l =
 pub grid-coarse : (f : Format) (n c B : ℕ) → 0 < c → n ≤ B * c → gridUnits f n c ≤ 2 * B + 1
 grid-coarse f n c B C l = coarse (2 ^ prec f) (gridUnits f n c) c n B (pow-pos (prec f)) C (grid-within f n c C) l
 
+-- a whole number of units
+pub whole-coarse : (f : Format) (n : ℕ) → gridUnits f n 1 ≤ 2 * n + 1
+whole-coarse f n = grid-coarse f n 1 n (zero-lt-suc 0) (le-of-eq (sym (mul-one n)))
+
+-- n / c units, rounded, have that size where nothing overflows
 pub round-value : (f : Format) (s : Bool) (n c : ℕ) → gridUnits f n c < overflow f → HasValue (roundUnits f s n c) s (gridUnits f n c) (2 ^ low f)
 round-value f s n c h =
     let p = prec f in

@@ -5,9 +5,7 @@ use Prim.Native.Nat.{ℕ, zero, suc, _+_, _-_, _*_, _^_, _≤_, _<_}
 use native.Mathlib.Nat.{le-trans, le-of-lt, suc-mul, mul-le-mul-right}
 use native.Mathlib.Omega.{arith}
 use lib.IntN.{ℤ, natAbs}
-use lib.Dec.{lit≤, lit<}
-use lib.Ieee.{Float, Format, prec, low, binary64, ofInt}
-use lib.Ieee.Scale.{overflow}
+use lib.Ieee.{Float, Format, prec, low, ofInt}
 use Rattle.rounding.proofs.CellError.{Room, cellIn}
 use Rattle.rounding.proofs.Ratio.{Ratio, wholeRatio, cellRatio, Bounded, whole-bounded, cell-bounded}
 use Rattle.rounding.proofs.CellNear.{Near, whole-near, cell-near}

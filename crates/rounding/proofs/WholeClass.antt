@@ -1,16 +1,15 @@
 -- Whole numbers among the rational numbers: sums, products and differences are carried over, and a fraction times its lower number is its upper.
-use mathlib.Core.Path.{_≡_, refl, sym, ap, ap₂, _∙_}
+use mathlib.Core.Path.{_≡_, refl, sym, ap, _∙_}
 use mathlib.Core.List.{[], _∷_}
-use Prim.Native.Nat.{ℕ, zero, suc, _+_, _-_, _*_, _≤_, _<_}
-use native.Mathlib.Nat.{mul-one}
+use Prim.Native.Nat.{ℕ, zero, suc, _+_, _-_, _*_, _<_}
 use native.Mathlib.Omega.{arith}
-use lib.IntN.{ℤ, pos, negℤ, _+ℤ_, _-ℤ_, _*ℤ_}
+use lib.IntN.{ℤ, pos, _-ℤ_, _*ℤ_}
 use Rattle.algebra.specs.Operations.{sub}
 use Rattle.algebra.proofs.Expressions.{var, lit, _⊕_, _⊗_, _⊖_, minus}
 use Rattle.algebra.proofs.Solver.{ring}
 use Rattle.algebra.proofs.IntegerRing.{integerRing}
 use Rattle.algebra.proofs.OrderLaws.{apart-of-positive}
-use Rattle.fractions.specs.Fraction.{Fraction, lower, over, whole, wholeN, sum, product, negation, fractionOperations}
+use Rattle.fractions.specs.Fraction.{over, whole, wholeN, sum, product, negation, fractionOperations}
 use Rattle.fractions.proofs.Rational.{ℚ, class, plus, times, rational, rationalOperations, class-of-equals}
 use Rattle.fractions.proofs.ClassLaws.{class-sum, class-product, class-sub, wholeN-below}
 
