@@ -16,7 +16,7 @@ use Rattle.rounding.proofs.RatioClass.{asFraction}
 use Rattle.rounding.proofs.FloatDistance.{apart-distance}
 use Rattle.rounding.proofs.TriangleNear.{Triangle, EntryNear, exactEntry, triangle-near}
 use Rattle.rounding.proofs.Distance.{Apart, near-apart}
-use Rattle.rounding.proofs.CellScale.{Sized, cell-scaled}
+use Rattle.rounding.proofs.CellScale.{Sized, near-sized, cell-scaled}
 
 -- the bound on coordinates and the largest difference (a knot difference counted in 256ths)
 abbrev pub largestCoordinate : ℕ
@@ -50,7 +50,8 @@ binary64-near rows first last left right zs entries few t =
 -- every entry of a triangle of at most three rows is finite and differs from the exact entry by less than 2 ^ -30
 pub triangle-distance : (rows first last : ℕ) (left right : ℕ → ℕ → ℕ) (zs : ℕ → ℤ) (entries : ℕ → ℕ → Float) → rows ≤ 3
     → Triangle binary64 largestCoordinate largestDifference rows first last left right zs entries
-    → (r j : ℕ) → r ≤ rows → first + r ≤ j → j ≤ last → T (finite (entries r j)) × DistanceBelow (floatFraction (entries r j)) (asFraction (exactEntry left right zs r j)) (over (pos 1) (2 ^ 30))
+    → (r j : ℕ) → r ≤ rows → first + r ≤ j → j ≤ last
+    → T (finite (entries r j)) × DistanceBelow (floatFraction (entries r j)) (asFraction (exactEntry left right zs r j)) (over (pos 1) (2 ^ 30))
 triangle-distance rows first last left right zs entries few t r j R l h =
     let q = exactEntry left right zs r j in
     let e : EntryNear binary64 largestCoordinate (r * rowError) (entries r j) q = binary64-near rows first last left right zs entries few t r j R l h in
@@ -58,6 +59,14 @@ triangle-distance rows first last left right zs entries few t r j R l h =
     near-apart binary64 (r * rowError) (2 ^ 30) (entries r j) q
     (lt-of-le-of-lt (mul-le-mul-right (2 ^ 30) (mul-le-mul-right rowError (le-trans R few))) (lit< tt)) (e .bounded .above-zero) (e .near) in
     (a .is-finite, apart-distance (2 ^ 30) (entries r j) q (lit< tt) (e .bounded .above-zero) a)
+
+-- every entry is finite and small enough for the law below
+pub entry-sized : (rows first last : ℕ) (left right : ℕ → ℕ → ℕ) (zs : ℕ → ℤ) (entries : ℕ → ℕ → Float) → rows ≤ 3
+    → Triangle binary64 largestCoordinate largestDifference rows first last left right zs entries
+    → (r j : ℕ) → r ≤ rows → first + r ≤ j → j ≤ last → Sized binary64 largestSize (entries r j)
+entry-sized rows first last left right zs entries few t r j R l h =
+    let e = binary64-near rows first last left right zs entries few t r j R l h in
+    near-sized binary64 largestCoordinate (r * rowError) largestSize (entries r j) (exactEntry left right zs r j) (e .bounded) (size-room r (le-trans R few)) (e .near)
 
 -- differences counted in 256ths leave the cell's bits as they are
 pub cell-in-256ths : (a b : ℕ) (l r : Float) → 0 < a + b → (a + b) * 256 ≤ largestDifference → Sized binary64 largestSize l → Sized binary64 largestSize r
