@@ -7,3 +7,5 @@ pub mod KnotLaws
 pub mod QuotientLaws
 pub mod WholeLaws
 pub mod PointLaws
+pub mod CheckedLaws
+pub mod JudgedLaws

@@ -72,9 +72,14 @@ upTo-none v ts i past whole inside =
     let rest : knotsUpTo v (drop i ts) ≡ 0 = rw (drop-of-length-le ts past) refl in
     omega arith
 
+-- the span is one less than the count
+pub span-of-upTo : (ts : List ℕ) (v k : ℕ) → k ≡ knotsUpTo v ts → k - 1 ≡ insertionSpan ts v
+unfolding insertionSpan
+span-of-upTo ts v k e = rw e
+
 -- in never-falling knots the first knot above v stands right of t_m and no further than t_{n+1}
 module _ (m : ℕ) (ts : List ℕ) (ps : List ℤ) (v : ℕ) (s : Insertable m ts ps v) where
-  upTo-least : m < knotsUpTo v ts
+  pub upTo-least : m < knotsUpTo v ts
   upTo-least = either m (knotsUpTo v ts) (λ h. h) (λ h. absurd (clash h))
     where
       clash : knotsUpTo v ts ≤ m → ⊥
@@ -82,7 +87,7 @@ module _ (m : ℕ) (ts : List ℕ) (ps : List ℤ) (v : ℕ) (s : Insertable m t
           let inside : knotsUpTo v ts < length ts = omega (arith, s .count) in
           omega (arith, knotsUpTo-above v ts inside, s .rises (knotsUpTo v ts) m h (omega (arith, s .count)), s .low)
 
-  upTo-most : knotsUpTo v ts ≤ length ps
+  pub upTo-most : knotsUpTo v ts ≤ length ps
   upTo-most = either (length ps) (knotsUpTo v ts) (λ h. absurd (clash h)) (λ h. h)
     where
       clash : length ps < knotsUpTo v ts → ⊥

@@ -1,0 +1,33 @@
+// The result of an insertion, written to the lent lists.
+ghost use mathlib.Core.Path.{_≡_};
+ghost use Prim.Native.Nat.{_+_, _≤_};
+ghost use lib.ListN.{length};
+ghost use Rattle.lent.specs.Lent.{over};
+ghost use Rattle.insertion.specs.Insertion.{insertedKnots, insertedPoints};
+ghost use Rattle.insertion.specs.Standing.{Insertable};
+
+// The new knots, x and y.
+pub(crate) fn write(
+    m: usize,
+    knots: &[u16],
+    xs: &[i32],
+    ys: &[i32],
+    v: u16,
+    out_knots: &mut [u16],
+    out_xs: &mut [i32],
+    out_ys: &mut [i32],
+)
+    requires { ⌜ Insertable m (now knots) (now xs) v ⌝ }
+    requires { ⌜ Insertable m (now knots) (now ys) v ⌝ }
+    requires { ⌜ length (now knots) + 1 ≤ length (now «out_knots») ⌝ }
+    requires { ⌜ length (now xs) + 1 ≤ length (now «out_xs») ⌝ }
+    requires { ⌜ length (now ys) + 1 ≤ length (now «out_ys») ⌝ }
+    ensures knots { λ _. ⌜ now («out_knots» .exit) ≡ over (insertedKnots (now (knots .entry)) v) (now («out_knots» .entry)) ⌝ }
+    ensures xs { λ _. ⌜ now («out_xs» .exit) ≡ over (insertedPoints m (now (knots .entry)) (now (xs .entry)) v) (now («out_xs» .entry)) ⌝ }
+    ensures ys { λ _. ⌜ now («out_ys» .exit) ≡ over (insertedPoints m (now (knots .entry)) (now (ys .entry)) v) (now («out_ys» .entry)) ⌝ }
+{
+    let i = insertion::knots_up_to(knots, v) - 1;
+    insertion::insert_value(knots, v, out_knots);
+    insertion::insert_points(m, knots, xs, v, i, out_xs);
+    insertion::insert_points(m, knots, ys, v, i, out_ys);
+}
