@@ -32,11 +32,12 @@ fn most_of(m: usize, first: u16, last: u16, v: u16) -> usize
     requires { ⌜ m ≤ 3 ⌝ }
     ensures answer { λ r. ⌜ r ≡ cond (eqb v first || eqb v last) (m + 1) m ⌝ }
 {
+    let ends = m + 1;
     if v == first {
-        return m + 1;
+        return ends;
     }
     if v == last {
-        return m + 1;
+        return ends;
     }
     m
 }
