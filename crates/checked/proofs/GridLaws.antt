@@ -18,10 +18,10 @@ use Rattle.checked.specs.Sentences.{OffGrid, RangeWrong}
 use Rattle.checked.proofs.TestLaws.{one-fails, every-passes, some-fails}
 
 -- tests as orders
-leZ-le : (a b : ℤ) → leZ a b ≡ true → a ≤ℤ b
+pub leZ-le : (a b : ℤ) → leZ a b ≡ true → a ≤ℤ b
 leZ-le a b e = record { le = subst T (sym e) tt }
 
-leZ-lt : (a b : ℤ) → leZ a b ≡ false → b <ℤ a
+pub leZ-lt : (a b : ℤ) → leZ a b ≡ false → b <ℤ a
 leZ-lt a b e = record { lt = subst T (sym (ltZ-not-leZ b a ∙ ap not e)) tt }
 
 T-true : (b : Bool) → T b → b ≡ true

@@ -4,6 +4,8 @@ pub mod RisingLaws
 pub mod EndLaws
 pub mod OccurrenceLaws
 pub mod GridLaws
+pub mod RectangleLaws
 pub mod RowLaws
 pub mod CheckedLaws
 pub mod SentenceLaws
+pub mod Controls

@@ -1,4 +1,4 @@
--- The rows 1 to 7 of the heading "Numbers of refusal", each as a sentence over all entries: it holds where the row applies.
+-- The rows 1 to 7, and 14, of the heading "Numbers of refusal", each as a sentence over all entries: it holds where the row applies.
 use mathlib.Core.List.{List, [], _∷_}
 use mathlib.Core.Logic.{_⊎_}
 use mathlib.Core.Path.{_≡_}
@@ -48,6 +48,11 @@ OffGrid z = (z <ℤ negℤ (pos coordinateMost)) ⊎ (pos coordinateMost <ℤ z)
 abbrev pub RangeWrong : List ℤ → List ℤ → Type 0
 RangeWrong xs ys =
     ((k : ℕ) × (k < length xs) × OffGrid (getD xs k (pos 0))) ⊎ ((k : ℕ) × (k < length ys) × OffGrid (getD ys k (pos 0)))
+
+-- row 14: a low side is above its high side, or a side is beyond the grid
+abbrev pub RectangleWrong : ℤ → ℤ → ℤ → ℤ → Type 0
+RectangleWrong lowX highX lowY highY =
+    (highX <ℤ lowX) ⊎ (highY <ℤ lowY) ⊎ OffGrid lowX ⊎ OffGrid highX ⊎ OffGrid lowY ⊎ OffGrid highY
 
 -- the seven sentences in the order of their rows
 abbrev pub rowSentences : ℕ → List ℕ → List ℤ → List ℤ → List (Type 0)

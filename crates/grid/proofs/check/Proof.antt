@@ -25,7 +25,13 @@ returns-2 c =
     (test-failed (c .if2 .taken) (c .before .point-count-ok .ensures))
 
 knot-count-ok-requires : tie.Need-knot-count-ok-requires
-knot-count-ok-requires c κs = ((degree-of-test (c .before .before .before .before .before .args .degree) (test-passed (c .before .before .if1 .left) (c .before .before .before .degree-ok .ensures))) .1, (points-of-test (c .before .before .before .before .before .args .degree) (c .before .before .before .before .before .args .xs .now) (c .before .before .before .before .before .args .ys .now) (test-passed (c .if2 .left) (c .before .point-count-ok .ensures))) .2)
+knot-count-ok-requires c κs =
+    let start = c .before .before .before .before .before in
+    let degree = test-passed (c .before .before .if1 .left) (c .before .before .before .degree-ok .ensures) in
+    let points = test-passed (c .if2 .left) (c .before .point-count-ok .ensures) in (
+      (degree-of-test (start .args .degree) degree) .1,
+      (points-of-test (start .args .degree) (start .args .xs .now) (start .args .ys .now) points) .2,
+    )
 
 returns-3 : tie.Need-returns-3
 returns-3 c =
@@ -46,7 +52,9 @@ returns-4 c =
     (test-failed (c .if4 .taken) (c .before .knot-order-ok .ensures))
 
 ends-ok-requires : tie.Need-ends-ok-requires
-ends-ok-requires c κs = omega (arith, knots-of-test (c .before .before .before .before .before .before .before .before .before .args .degree) (c .before .before .before .before .before .before .before .before .before .args .knots .now) (c .before .before .before .before .before .before .before .before .before .args .xs .now) (test-passed (c .before .before .if3 .left) (c .before .before .before .knot-count-ok .ensures)))
+ends-ok-requires c κs =
+    let start = c .before .before .before .before .before .before .before .before .before in
+    omega (arith, knots-of-test (start .args .degree) (start .args .knots .now) (start .args .xs .now) (test-passed (c .before .before .if3 .left) (c .before .before .before .knot-count-ok .ensures)))
 
 returns-5 : tie.Need-returns-5
 returns-5 c =
@@ -58,7 +66,16 @@ returns-5 c =
     (test-failed (c .if5 .taken) (c .before .ends-ok .ensures))
 
 repeats-ok-requires : tie.Need-repeats-ok-requires
-repeats-ok-requires c κs = (((degree-of-test (c .before .before .before .before .before .before .before .before .before .before .before .args .degree) (test-passed (c .before .before .before .before .before .before .before .before .if1 .left) (c .before .before .before .before .before .before .before .before .before .degree-ok .ensures))) .1, omega (arith, knots-of-test (c .before .before .before .before .before .before .before .before .before .before .before .args .degree) (c .before .before .before .before .before .before .before .before .before .before .before .args .knots .now) (c .before .before .before .before .before .before .before .before .before .before .before .args .xs .now) (test-passed (c .before .before .before .before .if3 .left) (c .before .before .before .before .before .knot-count-ok .ensures)))), test-passed (c .before .before .if4 .left) (c .before .before .before .knot-order-ok .ensures))
+repeats-ok-requires c κs =
+    let start = c .before .before .before .before .before .before .before .before .before .before .before in
+    let degree = test-passed (c .before .before .before .before .before .before .before .before .if1 .left) (c .before .before .before .before .before .before .before .before .before .degree-ok .ensures) in
+    let knots = test-passed (c .before .before .before .before .if3 .left) (c .before .before .before .before .before .knot-count-ok .ensures) in (
+      (
+        (degree-of-test (start .args .degree) degree) .1,
+        omega (arith, knots-of-test (start .args .degree) (start .args .knots .now) (start .args .xs .now) knots),
+      ),
+      test-passed (c .before .before .if4 .left) (c .before .before .before .knot-order-ok .ensures),
+    )
 
 returns-6 : tie.Need-returns-6
 returns-6 c =

@@ -26,7 +26,10 @@ shared-slice-read-if1 : tie.Need-shared-slice-read-if1 Inv-loop μ-loop
 shared-slice-read-if1 c = omega arith
 
 returns : tie.Need-returns Inv-loop μ-loop
-returns c = sym (c .before .before .before .loop .inv .1 ∙ allAre-fails (c .before .before .before .before .args .v) (c .before .before .before .before .args .knots .now) (c .before .before .before .loop .i) (omega arith) (ne-eqb _ _ (c .if1 .taken)))
+returns c =
+    let start = c .before .before .before .before in
+    let turn = c .before .before .before .loop in
+    sym (turn .inv .1 ∙ allAre-fails (start .args .v) (start .args .knots .now) (turn .i) (omega arith) (ne-eqb _ _ (c .if1 .taken)))
 
 add-i : tie.Need-add-i Inv-loop μ-loop
 add-i c = omega arith
@@ -35,7 +38,10 @@ loop-less : tie.Need-loop-less Inv-loop μ-loop
 loop-less c = omega arith
 
 loop-again : tie.Need-loop-again Inv-loop μ-loop
-loop-again c = (omega arith, c .before .before .before .loop .inv .1 ∙ allAre-on (c .before .before .before .before .args .v) (c .before .before .before .before .args .knots .now) (c .before .before .before .loop .i) (omega arith) (eq-eqb _ _ (c .if1 .left)))
+loop-again c =
+    let start = c .before .before .before .before in
+    let turn = c .before .before .before .loop in
+    (omega arith, turn .inv .1 ∙ allAre-on (start .args .v) (start .args .knots .now) (turn .i) (omega arith) (eq-eqb _ _ (c .if1 .left)))
 
 returns-2 : tie.Need-returns-2 Inv-loop μ-loop
 returns-2 c = sym (c .before .loop .inv .1 ∙ allAre-end (c .before .before .args .v) (c .before .before .args .knots .now) (c .before .loop .i) (omega arith))

@@ -55,11 +55,15 @@ all-are-requires-2 c κs = search needs
 
 returns-2 : tie.Need-returns-2
 unfolding endsOk
-returns-2 c = rw (test-passed (c .before .before .before .if1 .left) (c .before .before .before .before .all-are .ensures), test-failed (c .if2 .taken) (rw (take-rest (length (c .before .before .before .before .before .before .before .before .before .args .knots .now) - (c .before .before .before .before .before .before .before .before .before .args .m + 1)) (c .before .before .before .before .before .before .before .before .before .args .knots .now)) at (c .before .all-are2 .ensures)))
+returns-2 c =
+    let start = c .before .before .before .before .before .before .before .before .before in
+    rw (test-passed (c .before .before .before .if1 .left) (c .before .before .before .before .all-are .ensures), test-failed (c .if2 .taken) (rw (take-rest (length (start .args .knots .now) - (start .args .m + 1)) (start .args .knots .now)) at (c .before .all-are2 .ensures)))
 
 returns-3 : tie.Need-returns-3
 unfolding endsOk
-returns-3 c = rw (test-passed (c .before .before .before .if1 .left) (c .before .before .before .before .all-are .ensures), test-passed (c .if2 .left) (rw (take-rest (length (c .before .before .before .before .before .before .before .before .before .args .knots .now) - (c .before .before .before .before .before .before .before .before .before .args .m + 1)) (c .before .before .before .before .before .before .before .before .before .args .knots .now)) at (c .before .all-are2 .ensures)))
+returns-3 c =
+    let start = c .before .before .before .before .before .before .before .before .before in
+    rw (test-passed (c .before .before .before .if1 .left) (c .before .before .before .before .all-are .ensures), test-passed (c .if2 .left) (rw (take-rest (length (start .args .knots .now) - (start .args .m + 1)) (start .args .knots .now)) at (c .before .all-are2 .ensures)))
 
 pub ends-ok-spec : {M : Type 1} → statement M
 ends-ok-spec =

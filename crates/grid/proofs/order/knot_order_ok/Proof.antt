@@ -26,10 +26,14 @@ shared-slice-read-t : tie.Need-shared-slice-read-t Inv-loop μ-loop
 shared-slice-read-t c = omega arith
 
 returns : tie.Need-returns Inv-loop μ-loop
-returns c = sym (c .before .before .before .loop .inv .1 ∙ rises-low (c .before .before .before .before .args .knots .now) (c .before .before .before .loop .low) (c .before .before .before .loop .i) (omega arith) (c .if1 .taken))
+returns c =
+    let turn = c .before .before .before .loop in
+    sym (turn .inv .1 ∙ rises-low (c .before .before .before .before .args .knots .now) (turn .low) (turn .i) (omega arith) (c .if1 .taken))
 
 returns-2 : tie.Need-returns-2 Inv-loop μ-loop
-returns-2 c = sym (c .before .before .before .before .loop .inv .1 ∙ rises-high (c .before .before .before .before .before .args .knots .now) (c .before .before .before .before .loop .low) (c .before .before .before .before .loop .i) (omega arith) (c .before .if1 .left) (c .if2 .taken))
+returns-2 c =
+    let turn = c .before .before .before .before .loop in
+    sym (turn .inv .1 ∙ rises-high (c .before .before .before .before .before .args .knots .now) (turn .low) (turn .i) (omega arith) (c .before .if1 .left) (c .if2 .taken))
 
 add-i : tie.Need-add-i Inv-loop μ-loop
 add-i c = omega arith
@@ -38,7 +42,9 @@ loop-less : tie.Need-loop-less Inv-loop μ-loop
 loop-less c = omega arith
 
 loop-again : tie.Need-loop-again Inv-loop μ-loop
-loop-again c = (omega arith, c .before .before .before .before .loop .inv .1 ∙ rises-on (c .before .before .before .before .before .args .knots .now) (c .before .before .before .before .loop .low) (c .before .before .before .before .loop .i) (omega arith) (c .before .if1 .left) (c .if2 .left))
+loop-again c =
+    let turn = c .before .before .before .before .loop in
+    (omega arith, turn .inv .1 ∙ rises-on (c .before .before .before .before .before .args .knots .now) (turn .low) (turn .i) (omega arith) (c .before .if1 .left) (c .if2 .left))
 
 returns-3 : tie.Need-returns-3 Inv-loop μ-loop
 returns-3 c = sym (c .before .loop .inv .1 ∙ rises-end (c .before .before .args .knots .now) (c .before .loop .low) (c .before .loop .i) (omega arith))

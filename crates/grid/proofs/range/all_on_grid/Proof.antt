@@ -30,7 +30,9 @@ on-grid-requires : tie.Need-on-grid-requires Inv-loop μ-loop
 on-grid-requires c κs = search needs
 
 returns : tie.Need-returns Inv-loop μ-loop
-returns c = sym (c .before .before .before .before .loop .inv .1 ∙ allOnGrid-fails (c .before .before .before .before .before .args .zs .now) (c .before .before .before .before .loop .i) (omega arith) (test-failed (c .if1 .taken) (rw (toZ-ofZ (sfits-of (c .before .before .z .given))) at (c .before .on-grid .ensures))))
+returns c =
+    let turn = c .before .before .before .before .loop in
+    sym (turn .inv .1 ∙ allOnGrid-fails (c .before .before .before .before .before .args .zs .now) (turn .i) (omega arith) (test-failed (c .if1 .taken) (rw (toZ-ofZ (sfits-of (c .before .before .z .given))) at (c .before .on-grid .ensures))))
 
 add-i : tie.Need-add-i Inv-loop μ-loop
 add-i c = omega arith
@@ -39,7 +41,9 @@ loop-less : tie.Need-loop-less Inv-loop μ-loop
 loop-less c = omega arith
 
 loop-again : tie.Need-loop-again Inv-loop μ-loop
-loop-again c = (omega arith, c .before .before .before .before .loop .inv .1 ∙ allOnGrid-on (c .before .before .before .before .before .args .zs .now) (c .before .before .before .before .loop .i) (omega arith) (test-passed (c .if1 .left) (rw (toZ-ofZ (sfits-of (c .before .before .z .given))) at (c .before .on-grid .ensures))))
+loop-again c =
+    let turn = c .before .before .before .before .loop in
+    (omega arith, turn .inv .1 ∙ allOnGrid-on (c .before .before .before .before .before .args .zs .now) (turn .i) (omega arith) (test-passed (c .if1 .left) (rw (toZ-ofZ (sfits-of (c .before .before .z .given))) at (c .before .on-grid .ensures))))
 
 returns-2 : tie.Need-returns-2 Inv-loop μ-loop
 returns-2 c = sym (c .before .loop .inv .1 ∙ allOnGrid-end (c .before .before .args .zs .now) (c .before .loop .i) (omega arith))

@@ -53,7 +53,9 @@ stands-at-requires c κs = search needs
 
 returns : tie.Need-returns Inv-loop μ-loop
 unfolding repeatsMost knotOrderOk
-returns c = sym (repeats-fail (c .before .before .before .before .before .before .before .before .before .args .m) (c .before .before .before .before .before .before .before .before .before .args .knots .now) (c .before .before .before .before .before .before .before .before .before .pre .1) (c .before .before .before .before .before .loop .i) (omega arith) (sym (rw (c .before .before .most-of .ensures) at (c .before .stands-at .ensures)) ∙ c .if1 .taken))
+returns c =
+    let start = c .before .before .before .before .before .before .before .before .before in
+    sym (repeats-fail (start .args .m) (start .args .knots .now) (start .pre .1) (c .before .before .before .before .before .loop .i) (omega arith) (sym (rw (c .before .before .most-of .ensures) at (c .before .stands-at .ensures)) ∙ c .if1 .taken))
 
 add-i : tie.Need-add-i Inv-loop μ-loop
 add-i c = omega arith
@@ -63,11 +65,16 @@ loop-less c = omega arith
 
 loop-again : tie.Need-loop-again Inv-loop μ-loop
 unfolding repeatsMost
-loop-again c = (omega arith, below-more (λ j. equalsFar (c .before .before .before .before .before .before .before .before .before .args .m) (c .before .before .before .before .before .before .before .before .before .args .knots .now) j ≡ false) (c .before .before .before .before .before .loop .i) (c .before .before .before .before .before .loop .inv .1) (sym (rw (c .before .before .most-of .ensures) at (c .before .stands-at .ensures)) ∙ c .if1 .left))
+loop-again c =
+    let start = c .before .before .before .before .before .before .before .before .before in
+    let turn = c .before .before .before .before .before .loop in
+    (omega arith, below-more (λ j. equalsFar (start .args .m) (start .args .knots .now) j ≡ false) (turn .i) (turn .inv .1) (sym (rw (c .before .before .most-of .ensures) at (c .before .stands-at .ensures)) ∙ c .if1 .left))
 
 returns-2 : tie.Need-returns-2 Inv-loop μ-loop
 unfolding knotOrderOk
-returns-2 c = sym (repeats-hold (c .before .before .before .before .before .args .m) (c .before .before .before .before .before .args .knots .now) (c .before .before .before .before .before .pre .1) (λ j l. c .before .loop .inv .1 j (omega arith)))
+returns-2 c =
+    let start = c .before .before .before .before .before in
+    sym (repeats-hold (start .args .m) (start .args .knots .now) (start .pre .1) (λ j l. c .before .loop .inv .1 j (omega arith)))
 
 pub repeats-ok-spec : {M : Type 1} → statement M
 repeats-ok-spec =
