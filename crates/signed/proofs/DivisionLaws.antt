@@ -1,12 +1,15 @@
 -- Division that leaves nothing: the quotient times the divisor is the number again, and a multiple divided gives its factor.
 use mathlib.Core.Bool.{true}
-use mathlib.Core.Path.{_≡_, refl, ap, _∙_}
-use Prim.Native.Nat.{ℕ, zero, suc, _*_, _/_, _%_, _<_}
-use native.Mathlib.Nat.{mul-div-cancel, mul-mod-left, div-add-mod', zero-div, zero-mul}
+use mathlib.Core.Path.{_≡_, refl, sym, ap, _∙_}
+use Prim.Native.Nat.{ℕ, zero, suc, _-_, _*_, _/_, _%_, _^_, _<_}
+use native.Mathlib.Nat.{mul-div-cancel, mul-mod-left, div-add-mod', zero-div, zero-mul, mod-lt}
 use native.Mathlib.Omega.{arith}
+use lib.Dec.{eqb}
 use lib.IntN.{ℤ, pos, negsuc, negℤ, natAbs, _*ℤ_}
-use lib.Signed.{quotZ}
-use borrow.Author.Tests.{eqb-true, eq-eqb}
+use lib.Signed.{quotZ, remZ}
+use mir.Syntax.{w64}
+use mir.Val.{ofZ}
+use borrow.Author.Tests.{eqb-true, eq-eqb, ne-eqb}
 use Rattle.signed.specs.Division.{divides}
 use Rattle.signed.proofs.SizeLaws.{natAbs-mul}
 
@@ -38,3 +41,13 @@ rest-none (negsuc a) d h =
 pub product-of-quot : (z : ℤ) (d : ℕ) → divides (pos d) z ≡ true → quotZ z (pos d) *ℤ pos d ≡ z
 unfolding divides
 product-of-quot z d h = rest-none z d (eqb-true _ _ h)
+
+-- code that tests the bits of a remainder against zero tests that
+bits-none : (r : ℕ) → r < 2 ^ 63 → eqb (ofZ w64 (negℤ (pos r))) 0 ≡ eqb r 0
+bits-none zero h = refl
+bits-none (suc r) h = ne-eqb (2 ^ 64 - suc r) 0 (λ e. absurd (omega arith)) ∙ sym (ne-eqb (suc r) 0 (λ e. absurd (omega arith)))
+
+pub remainder-none : (z : ℤ) (d : ℕ) → 0 < d → d < 2 ^ 63 → eqb (ofZ w64 (remZ z (pos d))) 0 ≡ divides (pos d) z
+unfolding divides
+remainder-none (pos a) d h k = refl
+remainder-none (negsuc a) d h k = bits-none (suc a % d) (omega (arith, mod-lt (suc a) h))
