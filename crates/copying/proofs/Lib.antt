@@ -1,0 +1,2 @@
+-- Laws of the copy loop.
+pub mod CopyLaws
