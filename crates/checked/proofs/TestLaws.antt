@@ -13,9 +13,6 @@ pub one-fails : (a b : Bool) → (a && b) ≡ false → (a ≡ false) ⊎ (b ≡
 one-fails true b e = inr e
 one-fails false b e = inl refl
 
-pub both-hold : (a b : Bool) → a ≡ true → b ≡ true → (a && b) ≡ true
-both-hold a b p q = rw (p, q)
-
 -- a test whose passing says P and whose failing says S, where the two exclude each other
 module _ {P S : Type 0} (ok : Bool) (passing : ok ≡ true → P) (failing : ok ≡ false → S) (clash : P → S → ⊥) where
   pub fails-iff : (ok ≡ false) ↔ S
