@@ -6,7 +6,9 @@ use lib.IntN.{ℤ, pos, negsuc}
 use Rattle.fractions.specs.Fraction.{over, whole, sum, product, negation, turned, reciprocal}
 use Rattle.fractions.specs.Order.{Equals}
 use Rattle.splines.specs.Basis.{basis, sumOf, curveAt}
+use Rattle.span.specs.Span.{spanOf}
 use Rattle.exact.specs.ExactPoint.{exactCoordinate}
+use Rattle.exact.specs.ExactCurve.{exactAt}
 
 -- curve A: degree 3, points (0,0) (0,8) (8,8) (8,0)
 abbrev knotsA : List ℕ
@@ -82,3 +84,12 @@ doubled-knot-x = refl
 doubled-knot-y : Equals (exactCoordinate knotsDoubled ysDoubled 3 5 2 1) (whole (pos 0))
 unfolding exactCoordinate curveAt sumOf basis sum product negation turned reciprocal
 doubled-knot-y = refl
+
+-- B at its right end 4, in the span that the span rule gives, is (12, 0)
+end-of-B-x : Equals (exactAt 2 knotsB xsB 4 1) (whole (pos 12))
+unfolding spanOf exactCoordinate curveAt sumOf basis sum product negation turned reciprocal
+end-of-B-x = refl
+
+end-of-B-y : Equals (exactAt 2 knotsB ysB 4 1) (whole (pos 0))
+unfolding spanOf exactCoordinate curveAt sumOf basis sum product negation turned reciprocal
+end-of-B-y = refl

@@ -4,3 +4,4 @@ pub mod Homomorphism
 pub mod ExactLaws
 pub mod SpanLaws
 pub mod HullLaws
+pub mod DomainLaws

@@ -15,7 +15,8 @@ use Rattle.exact.specs.ExactPoint.{exactCoordinate}
 use Rattle.triangle.specs.FloatTriangle.{entryOf, coordinateOf}
 use Rattle.rounding.specs.FloatFraction.{floatFraction}
 use Rattle.point_at_exact.specs.NearExact.{NearExact}
-use Rattle.point_at_exact.specs.PointNear.{exactAt, PointNear}
+use Rattle.exact.specs.ExactCurve.{exactAt}
+use Rattle.point_at_exact.specs.PointNear.{PointNear}
 
 -- curve A: degree 3, points (0,0) (0,8) (8,8) (8,0)
 abbrev knotsA : List ℕ
@@ -50,7 +51,7 @@ knotsB = 0 ∷ 0 ∷ 0 ∷ 2 ∷ 4 ∷ 4 ∷ 4 ∷ []
 abbrev xsB : List ℤ
 xsB = pos 0 ∷ pos 4 ∷ pos 8 ∷ pos 12 ∷ []
 
-end-of-b-near : NearExact (coordinateOf 2 knotsB xsB 3 4) (exactAt 2 knotsB xsB 4)
+end-of-b-near : NearExact (coordinateOf 2 knotsB xsB 3 4) (exactAt 2 knotsB xsB 4 1)
 unfolding spanOf entryOf ofInt add mul div exactCoordinate curveAt sumOf basis sum product negation turned reciprocal
 end-of-b-near = record { is-finite = tt; distance = record { above = record { lt = tt }; under = record { lt = tt } } }
 

@@ -17,10 +17,9 @@ use Rattle.refusal.specs.Numbers.{accepted, parameterRefused}
 use Rattle.domain.proofs.ParameterLaws.{curve-passed}
 use Rattle.point_at.specs.declared.PointAnswer.the-variants.{At, Refused}
 use Rattle.point_at.specs.Point.{pointOf, answerOf}
-use Rattle.span.specs.Span.{spanOf, inDomain, IsSpan}
-use Rattle.span.proofs.SpanLaws.{spanOf-is, span-holds, inDomain-says}
+use Rattle.span.specs.Span.{spanOf, inDomain}
 use Rattle.exact.specs.ExactPoint.{exactCoordinate}
-use Rattle.exact.proofs.HullLaws.{Carried}
+use Rattle.exact.proofs.DomainLaws.{domain-carried}
 use Rattle.triangle.specs.FloatTriangle.{coordinateOf}
 use Rattle.rounding.proofs.Binary64.{largestCoordinate}
 use Rattle.point_at_exact.specs.NearExact.{NearExact}
@@ -34,35 +33,12 @@ on-grid-size (negsuc n) h =
     let l : n ≤ 262143 = leb→le n 262143 (h .low .le) in
     omega arith
 
-last-point : (n : ℕ) → 0 < n → n - 1 + 1 ≡ n
-last-point n h = omega arith
-
--- the span of a parameter of the domain carries the triangle, for either axis
-pub domain-carried : (m : ℕ) (ts : List ℕ) (xs ys ps : List ℤ) (t : ℕ) → Checked m ts xs ys → length ps ≡ length xs → inDomain ts m (length xs - 1) t 1 ≡ true
-    → Carried ts ps m (spanOf ts m (length xs - 1) t 1) t 1
-domain-carried m ts xs ys ps t c same inside =
-    let n = length xs - 1 in
-    let last : n + 1 ≡ length xs = last-point (length xs) (omega (arith, c .enough)) in
-    let d = inDomain-says ts m n t 1 inside in
-    let wide : getD ts m 0 < getD ts (n + 1) 0 = rw last (c .domain) in
-    let s : IsSpan ts m n t 1 (spanOf ts m n t 1) = spanOf-is ts m n t 1 (omega (arith, c .enough)) (d .0) wide in
-    let h = span-holds ts m n t 1 (spanOf ts m n t 1) s (d .1) in
-    record {
-      rises = λ a b l k. c .rising a b l (omega (arith, c .knots, s .to, last));
-      above = lit≤ tt;
-      starts = h .0;
-      ends = h .1;
-      some = s .wide;
-      from = s .from;
-      inside = rw same (omega (arith, s .to, last));
-    }
-
 -- one axis
 pub axis-near : (m : ℕ) (ts : List ℕ) (xs ys ps : List ℤ) (t : ℕ) → Checked m ts xs ys → length ps ≡ length xs → ((a : ℕ) → a < length ps → OnGrid (getD ps a (pos 0)))
     → inDomain ts m (length xs - 1) t 1 ≡ true → NearExact (coordinateOf m ts ps (spanOf ts m (length xs - 1) t 1) t) (exactCoordinate ts ps m (spanOf ts m (length xs - 1) t 1) t 1)
 axis-near m ts xs ys ps t c same grid inside =
     let i = spanOf ts m (length xs - 1) t 1 in
-    let carried = domain-carried m ts xs ys ps t c same inside in
+    let carried = domain-carried m ts xs ys c ps same t 1 (lit≤ tt) inside in
     coordinate-near ts ps m i t (c .degreeHigh) carried
     (λ k l. le-trans (c .largest k (omega (arith, c .knots, carried .inside, same))) (lit≤ tt))
     (λ j l h. on-grid-size (getD ps j (pos 0)) (grid j (omega (arith, carried .inside))))

@@ -6,22 +6,17 @@ use mathlib.Core.Path.{_≡_}
 use Prim.Native.Nat.{ℕ, _-_}
 use lib.IntN.{ℤ}
 use lib.ListN.{length}
-use Rattle.fractions.specs.Fraction.{Fraction}
-use Rattle.exact.specs.ExactPoint.{exactCoordinate}
+use Rattle.exact.specs.ExactCurve.{exactAt}
 use Rattle.grid.specs.Check.{Passes}
-use Rattle.span.specs.Span.{spanOf, inDomain}
+use Rattle.span.specs.Span.{inDomain}
 use Rattle.point_at.specs.declared.PointAnswer.the-variants.{At}
 use Rattle.point_at.specs.Point.{pointOf, answerOf}
 use Rattle.point_at_exact.specs.NearExact.{NearExact}
 
--- one coordinate of the exact point at the whole parameter t, in the span that holds t
-abbrev pub exactAt : ℕ → List ℕ → List ℤ → ℕ → Fraction
-exactAt m ts ps t = exactCoordinate ts ps m (spanOf ts m (length ps - 1) t 1) t 1
-
 -- both coordinates of the computed point are finite and less than 2 ^ -30 from the exact point's
 pub record PointNear (m : ℕ) (ts : List ℕ) (xs ys : List ℤ) (t : ℕ) : Type 0 where
-  pub x : NearExact (pointOf m ts xs ys t .x) (exactAt m ts xs t)
-  pub y : NearExact (pointOf m ts xs ys t .y) (exactAt m ts ys t)
+  pub x : NearExact (pointOf m ts xs ys t .x) (exactAt m ts xs t 1)
+  pub y : NearExact (pointOf m ts xs ys t .y) (exactAt m ts ys t 1)
 
 -- for every curve that passes the check and every whole parameter of its domain, the call answers a point, and that point is near the exact one
 abbrev pub PointNearExact : Type 0

@@ -1,0 +1,5 @@
+-- Why every crossing is reported.
+pub mod Controls
+pub mod CrossingLaws
+pub mod ListedLaws
+pub mod MeetsLaws

@@ -1,0 +1,2 @@
+-- What it means that every crossing is reported.
+pub mod Crossing
