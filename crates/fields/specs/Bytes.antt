@@ -1,8 +1,8 @@
 -- How numbers, lists of them and fields are bytes, low byte first (heading "The record on disk").
 use mathlib.Core.List.{List, [], _∷_, _++_}
-use Prim.Native.Nat.{ℕ, _/_, _%_}
+use Prim.Native.Nat.{ℕ, _/_, _%_, _<_}
 use lib.IntN.{ℤ}
-use lib.ListN.{length}
+use lib.ListN.{length, getD}
 use mir.Syntax.{w32}
 use mir.Val.{ofZ}
 
@@ -42,3 +42,7 @@ headBytes tag len = tag ∷ u16Bytes len
 -- a field: its tag, the length of its contents in two bytes, its contents
 abbrev pub fieldBytes : ℕ → List ℕ → List ℕ
 fieldBytes tag contents = headBytes tag (length contents) ++ contents
+
+-- every number is a byte's
+abbrev pub Octets : List ℕ → Type 0
+Octets bytes = (i : ℕ) → getD bytes i 0 < 256

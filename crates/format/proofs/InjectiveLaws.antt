@@ -1,0 +1,143 @@
+-- Different lists have different bytes: entry by entry, list by list, field by field, record by record.
+use mathlib.Core.Path.{_≡_, refl, sym, ap, ap₂, _∙_}
+use mathlib.Core.List.{List, [], _∷_, _++_, append-assoc}
+use Prim.Native.Nat.{ℕ, suc, _+_, _*_, _/_, _%_, _<_}
+use native.Mathlib.Nat.{mod-add-div, mod-eq-of-lt}
+use native.Mathlib.Omega.{arith}
+use lib.Dec.{lit<}
+use lib.IntN.{ℤ, pos}
+use lib.ListN.{length, getD, take, drop, length-append}
+use lib.Seq.{take-at, drop-at}
+use mir.Syntax.{w32}
+use mir.Val.{SFits, ofZ, toZ}
+use mir.Facts.{toZ-ofZ, fits-ofZ}
+use Rattle.fields.specs.Bytes.{u16Bytes, u32Bytes, i32Bytes, each, fieldBytes, knotBytes, coordinateBytes}
+use Rattle.format.specs.Format.{KnotsForm, form1, degreeTag, xTag, yTag, recordBytes, Storable}
+
+-- joins that are equal have equal parts, where the first parts are of one length
+pub append-apart : {A : Type 0} (a b c d : List A) → length a ≡ length c → a ++ b ≡ c ++ d → (a ≡ c) × (b ≡ d)
+append-apart {A} a b c d n e =
+    let front : take (length c) (a ++ b) ≡ a = take-at a b (length c) n in
+    let back : drop (length c) (a ++ b) ≡ b = drop-at a b (length c) n in
+    (sym front ∙ ap (take (length c)) e ∙ take-at c d (length c) refl, sym back ∙ ap (drop (length c)) e ∙ drop-at c d (length c) refl)
+
+-- the entry at a place of two equal lists
+same-at : (a b : List ℕ) (i : ℕ) → a ≡ b → getD a i 0 ≡ getD b i 0
+same-at a b i e = ap (λ (l : List ℕ). getD l i 0) e
+
+pub knot-injective : (v w : ℕ) → v < 65536 → w < 65536 → u16Bytes v ≡ u16Bytes w → v ≡ w
+knot-injective v w hv hw e =
+    let low : v % 256 ≡ w % 256 = same-at (u16Bytes v) (u16Bytes w) 0 e in
+    let high : v / 256 % 256 ≡ w / 256 % 256 = same-at (u16Bytes v) (u16Bytes w) 1 e in
+    omega arith
+
+-- four bytes make their number again
+joined : (v a b c r s t u : ℕ) → v ≡ r + 256 * a → a ≡ s + 256 * b → b ≡ t + 256 * c → c ≡ u → v ≡ r + 256 * s + 65536 * t + 16777216 * u
+joined v a b c r s t u first second third fourth = omega arith
+
+bits-whole : (v : ℕ) → v < 4294967296 → v ≡ v % 256 + 256 * (v / 256 % 256) + 65536 * (v / 65536 % 256) + 16777216 * (v / 16777216 % 256)
+bits-whole v h =
+    let second : v / 65536 ≡ v / 256 / 256 = omega arith in
+    let third : v / 16777216 ≡ v / 256 / 256 / 256 = omega arith in
+    let small : v / 16777216 < 256 = omega arith in
+    let last : v / 256 / 256 / 256 < 256 = rw third at small in
+    rw (second, third)
+    (joined v (v / 256) (v / 256 / 256) (v / 256 / 256 / 256) (v % 256) (v / 256 % 256) (v / 256 / 256 % 256) (v / 256 / 256 / 256 % 256)
+    (sym (mod-add-div v 256)) (sym (mod-add-div (v / 256) 256)) (sym (mod-add-div (v / 256 / 256) 256)) (sym (mod-eq-of-lt last)))
+
+bits-injective : (v w : ℕ) → v < 4294967296 → w < 4294967296 → u32Bytes v ≡ u32Bytes w → v ≡ w
+bits-injective v w hv hw e =
+    let first : v % 256 ≡ w % 256 = same-at (u32Bytes v) (u32Bytes w) 0 e in
+    let second : v / 256 % 256 ≡ w / 256 % 256 = same-at (u32Bytes v) (u32Bytes w) 1 e in
+    let third : v / 65536 % 256 ≡ w / 65536 % 256 = same-at (u32Bytes v) (u32Bytes w) 2 e in
+    let fourth : v / 16777216 % 256 ≡ w / 16777216 % 256 = same-at (u32Bytes v) (u32Bytes w) 3 e in
+    bits-whole v hv ∙ (cc) ∙ sym (bits-whole w hw)
+
+pub coordinate-injective : (v w : ℤ) → SFits w32 v → SFits w32 w → i32Bytes v ≡ i32Bytes w → v ≡ w
+coordinate-injective v w fv fw e =
+    let same : ofZ w32 v ≡ ofZ w32 w = bits-injective (ofZ w32 v) (ofZ w32 w) (fits-ofZ fv .fits) (fits-ofZ fw .fits) e in
+    sym (toZ-ofZ fv) ∙ ap (toZ w32) same ∙ toZ-ofZ fw
+
+module _ {A : Type 0} (bytesOf : A → List ℕ) (width : ℕ) (wide : (x : A) → length (bytesOf x) ≡ suc width) (d : A) (P : A → Type 0)
+    (one : (v w : A) → P v → P w → bytesOf v ≡ bytesOf w → v ≡ w) where
+  pub each-injective : (vs ws : List A) → ((i : ℕ) → P (getD vs i d)) → ((i : ℕ) → P (getD ws i d)) → each bytesOf vs ≡ each bytesOf ws → vs ≡ ws
+  each-injective [] [] hv hw e = refl
+  each-injective [] (w ∷ ws) hv hw e = absurd (omega (arith, ap length e, length-append (bytesOf w) (each bytesOf ws), wide w))
+  each-injective (v ∷ vs) [] hv hw e = absurd (omega (arith, ap length e, length-append (bytesOf v) (each bytesOf vs), wide v))
+  each-injective (v ∷ vs) (w ∷ ws) hv hw e =
+      let apart = append-apart (bytesOf v) (each bytesOf vs) (bytesOf w) (each bytesOf ws) (wide v ∙ sym (wide w)) e in
+      ap₂ (λ (y : A) (l : List A). y ∷ l) (one v w (hv 0) (hw 0) (apart .0)) (each-injective vs ws (λ i. hv (suc i)) (λ i. hw (suc i)) (apart .1))
+
+pub knots-injective : (ts us : List ℕ) → ((i : ℕ) → getD ts i 0 < 65536) → ((i : ℕ) → getD us i 0 < 65536) → knotBytes ts ≡ knotBytes us → ts ≡ us
+knots-injective = each-injective u16Bytes 1 (λ _. refl) 0 (λ v. v < 65536) knot-injective
+
+pub coordinates-injective : (xs ys : List ℤ) → ((i : ℕ) → SFits w32 (getD xs i (pos 0))) → ((i : ℕ) → SFits w32 (getD ys i (pos 0)))
+    → coordinateBytes xs ≡ coordinateBytes ys → xs ≡ ys
+coordinates-injective = each-injective i32Bytes 3 (λ _. refl) (pos 0) (SFits w32) coordinate-injective
+
+-- a field tells its contents and what follows it
+pub field-injective : (tag : ℕ) (a b rest left : List ℕ) → length a < 65536 → length b < 65536
+    → fieldBytes tag a ++ rest ≡ fieldBytes tag b ++ left → (a ≡ b) × (rest ≡ left)
+field-injective tag a b rest left ha hb e =
+    let low : length a % 256 ≡ length b % 256 = same-at (fieldBytes tag a ++ rest) (fieldBytes tag b ++ left) 1 e in
+    let high : length a / 256 % 256 ≡ length b / 256 % 256 = same-at (fieldBytes tag a ++ rest) (fieldBytes tag b ++ left) 2 e in
+    append-apart a rest b left (omega arith) (ap (drop 3) e)
+
+regrouped : (a b c d rest : List ℕ) → a ++ (b ++ (c ++ d)) ++ rest ≡ a ++ (b ++ (c ++ (d ++ rest)))
+regrouped a b c d rest = simp append-assoc
+
+-- a record and what follows it, field by field
+pub record-grouped : (form : KnotsForm) (m : ℕ) (ts : List ℕ) (xs ys : List ℤ) (rest : List ℕ)
+    → recordBytes form m ts xs ys ++ rest
+    ≡ fieldBytes degreeTag (m ∷ [])
+    ++ (fieldBytes (form .tag) (form .bytesOf ts) ++ (fieldBytes xTag (coordinateBytes xs) ++ (fieldBytes yTag (coordinateBytes ys) ++ rest)))
+record-grouped form m ts xs ys rest =
+    regrouped (fieldBytes degreeTag (m ∷ [])) (fieldBytes (form .tag) (form .bytesOf ts)) (fieldBytes xTag (coordinateBytes xs))
+    (fieldBytes yTag (coordinateBytes ys)) rest
+
+-- the same lists, and the same bytes behind them
+pub record Same (m : ℕ) (ts : List ℕ) (xs ys : List ℤ) (rest : List ℕ) (m₁ : ℕ) (ts₁ : List ℕ) (xs₁ ys₁ : List ℤ) (rest₁ : List ℕ) : Type 0 where
+  pub degree : m ≡ m₁
+  pub knots : ts ≡ ts₁
+  pub onX : xs ≡ xs₁
+  pub onY : ys ≡ ys₁
+  pub left : rest ≡ rest₁
+
+-- lists and what follows them are told by their bytes, in any form of the knots' field that tells its knots
+pub record-injective : (form : KnotsForm) → form .most < 65536
+    → ((ts us : List ℕ) → ((i : ℕ) → getD ts i 0 < 65536) → ((i : ℕ) → getD us i 0 < 65536) → form .bytesOf ts ≡ form .bytesOf us → ts ≡ us)
+    → (m : ℕ) (ts : List ℕ) (xs ys : List ℤ) (rest : List ℕ) (m₁ : ℕ) (ts₁ : List ℕ) (xs₁ ys₁ : List ℤ) (rest₁ : List ℕ)
+    → Storable form m ts xs ys → Storable form m₁ ts₁ xs₁ ys₁
+    → recordBytes form m ts xs ys ++ rest ≡ recordBytes form m₁ ts₁ xs₁ ys₁ ++ rest₁ → Same m ts xs ys rest m₁ ts₁ xs₁ ys₁ rest₁
+record-injective form short told m ts xs ys rest m₁ ts₁ xs₁ ys₁ rest₁ s s₁ e =
+    let k : List ℕ = form .bytesOf ts in
+    let k₁ : List ℕ = form .bytesOf ts₁ in
+    let x : List ℕ = coordinateBytes xs in
+    let x₁ : List ℕ = coordinateBytes xs₁ in
+    let y : List ℕ = coordinateBytes ys in
+    let y₁ : List ℕ = coordinateBytes ys₁ in
+    let fromY : List ℕ = fieldBytes yTag y ++ rest in
+    let fromY₁ : List ℕ = fieldBytes yTag y₁ ++ rest₁ in
+    let fromX : List ℕ = fieldBytes xTag x ++ fromY in
+    let fromX₁ : List ℕ = fieldBytes xTag x₁ ++ fromY₁ in
+    let fromK : List ℕ = fieldBytes (form .tag) k ++ fromX in
+    let fromK₁ : List ℕ = fieldBytes (form .tag) k₁ ++ fromX₁ in
+    let whole : fieldBytes degreeTag (m ∷ []) ++ fromK ≡ fieldBytes degreeTag (m₁ ∷ []) ++ fromK₁ =
+    sym (record-grouped form m ts xs ys rest) ∙ e ∙ record-grouped form m₁ ts₁ xs₁ ys₁ rest₁ in
+    let a = field-injective degreeTag (m ∷ []) (m₁ ∷ []) fromK fromK₁ (lit< tt) (lit< tt) whole in
+    let b = field-injective (form .tag) k k₁ fromX fromX₁ (omega (arith, s .knotRoom, short)) (omega (arith, s₁ .knotRoom, short)) (a .1) in
+    let c = field-injective xTag x x₁ fromY fromY₁ (omega (arith, s .xRoom)) (omega (arith, s₁ .xRoom)) (b .1) in
+    let d = field-injective yTag y y₁ rest rest₁ (omega (arith, s .yRoom)) (omega (arith, s₁ .yRoom)) (c .1) in
+    record {
+      degree = same-at (m ∷ []) (m₁ ∷ []) 0 (a .0);
+      knots = told ts ts₁ (s .knots) (s₁ .knots) (b .0);
+      onX = coordinates-injective xs xs₁ (s .onX) (s₁ .onX) (c .0);
+      onY = coordinates-injective ys ys₁ (s .onY) (s₁ .onY) (d .0);
+      left = d .1;
+    }
+
+-- form 1 tells its knots
+pub form1-injective : (m : ℕ) (ts : List ℕ) (xs ys : List ℤ) (rest : List ℕ) (m₁ : ℕ) (ts₁ : List ℕ) (xs₁ ys₁ : List ℤ) (rest₁ : List ℕ)
+    → Storable form1 m ts xs ys → Storable form1 m₁ ts₁ xs₁ ys₁
+    → recordBytes form1 m ts xs ys ++ rest ≡ recordBytes form1 m₁ ts₁ xs₁ ys₁ ++ rest₁ → Same m ts xs ys rest m₁ ts₁ xs₁ ys₁ rest₁
+form1-injective = record-injective form1 (lit< tt) knots-injective

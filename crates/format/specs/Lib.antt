@@ -1,0 +1,2 @@
+-- The bytes that a curve's lists have.
+pub mod Format

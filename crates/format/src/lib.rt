@@ -1,0 +1,1 @@
+// The record's format: what bytes lists have. There is nothing here that runs.

@@ -1,0 +1,119 @@
+-- A layout is sound exactly where the bytes begin with some lists' bytes, and then these lists are the ones that stand at its places.
+use mathlib.Core.Path.{_≡_, refl, sym, ap, _∙_}
+use mathlib.Core.List.{List, [], _∷_, _++_}
+use Prim.Native.Nat.{ℕ, _+_, _*_, _/_, _%_, _≤_, zero-le}
+use native.Mathlib.Omega.{arith}
+use lib.Dec.{lit<, lit≤}
+use lib.IntN.{ℤ}
+use lib.ListN.{length, take, drop}
+use lib.Seq.{drop-cons, drop-drop, drop-at}
+use borrow.Author.Tests.{eqb-false}
+use Rattle.fields.specs.Bytes.{fieldBytes, knotBytes, coordinateBytes, Octets}
+use Rattle.fields.specs.Places.{u16At, i32At, coordinatesAt}
+use Rattle.fields.proofs.PlaceLaws.{length-entriesAt}
+use Rattle.format.specs.Format.{form1, degreeTag, knotsTag, xTag, yTag, recordBytes, Storable}
+use Rattle.format.proofs.EntryLaws.{knots-exact, coordinates-exact, knots-small, coordinates-fit}
+use Rattle.format.proofs.InjectiveLaws.{record-grouped}
+use Rattle.format.proofs.SizeLaws.{length-knots, length-coordinates}
+use Rattle.layout.specs.Contents.{degreeIn, knotsIn, xsIn, ysIn}
+use Rattle.layout.specs.Judging.{fieldAt, degreeRule, knotsRule, xRule, yRule, fromX, fromY, recordLayout, recordEnd}
+use Rattle.layout.specs.declared.Rule.{Rule}
+use Rattle.layout.specs.declared.Layout.the-variants.{Sound}
+use Rattle.layout.specs.declared.Taken.the-variants.{Field}
+use Rattle.layout.proofs.SplitLaws.{Whole, Laid, layout-known, layout-within, field-split, field-found, length-whole, length-right}
+
+-- what follows a field, by its place
+behind : (at next tag : ℕ) (bytes contents rest : List ℕ) → next ≡ at + (3 + length contents) → drop at bytes ≡ fieldBytes tag contents ++ rest → drop next bytes ≡ rest
+behind at next tag bytes contents rest n e =
+    ap (λ (p : ℕ). drop p bytes) n
+    ∙ sym (drop-drop (3 + length contents) at bytes)
+    ∙ ap (drop (3 + length contents)) e
+    ∙ drop-at (fieldBytes tag contents) rest (3 + length contents) (omega arith)
+
+module _ (bytes : List ℕ) (octets : Octets bytes) (k x y : ℕ) (e : recordLayout bytes ≡ Sound k x y) where
+  laid : Laid bytes k x y
+  laid = layout-known k x y bytes e
+
+  -- a field by its places: the tag's, the contents', the next field's
+  split-to : (rule : Rule) (at here next len : ℕ) (contents : List ℕ) → at + 3 ≡ here → here + len ≡ next → Whole rule bytes at len
+      → take len (drop here bytes) ≡ contents → drop at bytes ≡ fieldBytes (rule .tag) contents ++ drop next bytes
+  split-to rule at here next len contents h n whole c =
+      field-split rule bytes at len octets whole
+      ∙ ap (λ (p : ℕ). fieldBytes (rule .tag) (take len (drop p bytes)) ++ drop (p + len) bytes) h
+      ∙ ap (λ (p : ℕ). fieldBytes (rule .tag) (take len (drop here bytes)) ++ drop p bytes) n
+      ∙ ap (λ (l : List ℕ). fieldBytes (rule .tag) l ++ drop next bytes) c
+
+  knots-contents : take k (drop 7 bytes) ≡ knotBytes (knotsIn bytes k)
+  knots-contents =
+      let whole : k % 2 ≡ 0 = length-whole knotsRule k (laid .knots .right) in
+      let count : 2 * (k / 2) ≡ k = omega arith in
+      let inside : 7 + 2 * (k / 2) ≤ length bytes = omega (arith, laid .knots .inside) in
+      sym (knots-exact bytes octets 7 (k / 2) inside ∙ ap (λ (n : ℕ). take n (drop 7 bytes)) count)
+
+  coordinates-contents : (at z : ℕ) → z % 4 ≡ 0 → at + z ≤ length bytes → take z (drop at bytes) ≡ coordinateBytes (coordinatesAt bytes at (z / 4))
+  coordinates-contents at z whole h =
+      let count : 4 * (z / 4) ≡ z = omega arith in
+      let inside : at + 4 * (z / 4) ≤ length bytes = omega arith in
+      sym (coordinates-exact bytes octets at (z / 4) inside ∙ ap (λ (n : ℕ). take n (drop at bytes)) count)
+
+  pub layout-storable : Storable form1 (degreeIn bytes) (knotsIn bytes k) (xsIn bytes k x) (ysIn bytes k x y)
+  layout-storable =
+      let within = layout-within bytes k x y e in
+      let long : (at z : ℕ) → length (coordinateBytes (coordinatesAt bytes at (z / 4))) ≡ 4 * (z / 4) =
+      λ at z. length-coordinates (coordinatesAt bytes at (z / 4)) ∙ ap (λ (n : ℕ). 4 * n) (length-entriesAt (i32At bytes) 4 at (z / 4)) in
+      let knots : length (knotBytes (knotsIn bytes k)) ≡ 2 * (k / 2) =
+      length-knots (knotsIn bytes k) ∙ ap (λ (n : ℕ). 2 * n) (length-entriesAt (u16At bytes) 2 7 (k / 2)) in
+      record {
+        degree = octets 3;
+        knots = knots-small bytes octets 7 (k / 2);
+        onX = coordinates-fit bytes octets (10 + k) (x / 4);
+        onY = coordinates-fit bytes octets (13 + k + x) (y / 4);
+        knotRoom = omega (arith, within .knots, knots);
+        xRoom = omega (arith, within .onX, long (10 + k) x);
+        yRoom = omega (arith, within .onY, long (13 + k + x) y);
+      }
+
+  -- the front of the bytes is the record of these lists
+  pub layout-record : bytes ≡ recordBytes form1 (degreeIn bytes) (knotsIn bytes k) (xsIn bytes k x) (ysIn bytes k x y) ++ drop (recordEnd k x y) bytes
+  layout-record =
+      let ahead : take 1 (drop 3 bytes) ≡ degreeIn bytes ∷ [] = ap (take 1) (drop-cons bytes 3 0 (omega (arith, laid .degree .inside))) in
+      let evenX : x % 4 ≡ 0 = length-whole xRule x (laid .onX .right) in
+      let evenY : y % 4 ≡ 0 = length-whole yRule y (laid .onY .right) in
+      let one : drop 0 bytes ≡ fieldBytes degreeTag (degreeIn bytes ∷ []) ++ drop 4 bytes =
+      split-to degreeRule 0 3 4 1 (degreeIn bytes ∷ []) refl refl (laid .degree) ahead in
+      let two : drop 4 bytes ≡ fieldBytes knotsTag (knotBytes (knotsIn bytes k)) ++ drop (7 + k) bytes =
+      split-to knotsRule 4 7 (7 + k) k (knotBytes (knotsIn bytes k)) refl refl (laid .knots) knots-contents in
+      let three : drop (7 + k) bytes ≡ fieldBytes xTag (coordinateBytes (xsIn bytes k x)) ++ drop (10 + k + x) bytes =
+      split-to xRule (7 + k) (10 + k) (10 + k + x) x (coordinateBytes (xsIn bytes k x)) (omega arith) refl (laid .onX)
+      (coordinates-contents (10 + k) x evenX (omega (arith, laid .onX .inside))) in
+      let four : drop (10 + k + x) bytes ≡ fieldBytes yTag (coordinateBytes (ysIn bytes k x y)) ++ drop (recordEnd k x y) bytes =
+      split-to yRule (10 + k + x) (13 + k + x) (recordEnd k x y) y (coordinateBytes (ysIn bytes k x y)) (omega arith) refl (laid .onY)
+      (coordinates-contents (13 + k + x) y evenY (omega (arith, laid .onY .inside))) in
+      one
+      ∙ ap (λ (l : List ℕ). fieldBytes degreeTag (degreeIn bytes ∷ []) ++ l)
+      (two
+      ∙ ap (λ (l : List ℕ). fieldBytes knotsTag (knotBytes (knotsIn bytes k)) ++ l)
+      (three ∙ ap (λ (l : List ℕ). fieldBytes xTag (coordinateBytes (xsIn bytes k x)) ++ l) four))
+      ∙ sym (record-grouped form1 (degreeIn bytes) (knotsIn bytes k) (xsIn bytes k x) (ysIn bytes k x y) (drop (recordEnd k x y) bytes))
+
+-- bytes that begin with some lists' bytes: their layout is sound, with these lists' lengths
+pub record-layout : (m : ℕ) (ts : List ℕ) (xs ys : List ℤ) (rest bytes : List ℕ) → Storable form1 m ts xs ys
+    → bytes ≡ recordBytes form1 m ts xs ys ++ rest
+    → recordLayout bytes ≡ Sound (length (knotBytes ts)) (length (coordinateBytes xs)) (length (coordinateBytes ys))
+unfolding recordLayout
+record-layout m ts xs ys rest bytes s e =
+    let k : ℕ = length (knotBytes ts) in
+    let x : ℕ = length (coordinateBytes xs) in
+    let y : ℕ = length (coordinateBytes ys) in
+    let fromY : List ℕ = fieldBytes yTag (coordinateBytes ys) ++ rest in
+    let fromX : List ℕ = fieldBytes xTag (coordinateBytes xs) ++ fromY in
+    let fromK : List ℕ = fieldBytes knotsTag (knotBytes ts) ++ fromX in
+    let one : drop 0 bytes ≡ fieldBytes degreeTag (m ∷ []) ++ fromK = e ∙ record-grouped form1 m ts xs ys rest in
+    let two : drop 4 bytes ≡ fromK = ap (drop 4) one in
+    let three : drop (7 + k) bytes ≡ fromX = behind 4 (7 + k) knotsTag bytes (knotBytes ts) fromX (omega arith) two in
+    let four : drop (10 + k + x) bytes ≡ fromY = behind (7 + k) (10 + k + x) xTag bytes (coordinateBytes xs) fromY (omega arith) three in
+    let degree : fieldAt degreeRule bytes 0 ≡ Field 1 = field-found degreeRule bytes (m ∷ []) fromK 0 (lit< tt) (length-right degreeRule 1 (lit≤ tt) (lit≤ tt) (eqb-false 1 0 refl) refl) one in
+    let knots : fieldAt knotsRule bytes 4 ≡ Field k = field-found knotsRule bytes (knotBytes ts) fromX 4 (omega (arith, s .knotRoom)) (length-right knotsRule k zero-le (s .knotRoom) (eqb-false 2 0 refl) (omega (arith, length-knots ts))) two in
+    let onX : fieldAt xRule bytes (7 + k) ≡ Field x = field-found xRule bytes (coordinateBytes xs) fromY (7 + k) (omega (arith, s .xRoom)) (length-right xRule x zero-le (s .xRoom) (eqb-false 4 0 refl) (omega (arith, length-coordinates xs))) three in
+    let onY : fieldAt yRule bytes (10 + k + x) ≡ Field y = field-found yRule bytes (coordinateBytes ys) rest (10 + k + x) (omega (arith, s .yRoom)) (length-right yRule y zero-le (s .yRoom) (eqb-false 4 0 refl) (omega (arith, length-coordinates ys))) four in
+    rw (degree, knots, onX, onY)

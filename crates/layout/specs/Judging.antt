@@ -1,0 +1,83 @@
+-- How bytes are judged (heading "The record on disk"): fields from the left, in each its tag, then its length, then its contents;
+-- the leftmost fault is told, with its place. That this finds exactly the records of Format stands in proofs/.
+use mathlib.Core.Bool.{Bool, cond, not, _&&_}
+use mathlib.Core.List.{List}
+use Prim.Native.Nat.{ℕ, _+_, _%_}
+use lib.Dec.{leb, ltb, eqb}
+use lib.ListN.{length, getD}
+use Rattle.fields.specs.Places.{u16At}
+use Rattle.grid.specs.Limits.{knotBytesMost, coordinateBytesMost}
+use Rattle.format.specs.Format.{degreeTag, knotsTag, xTag, yTag}
+use Rattle.layout.specs.declared.Rule.{Rule}
+use Rattle.layout.specs.declared.Fault.the-variants.{Ended, Tag, Length, LeftOver}
+use Rattle.layout.specs.declared.Taken.{Taken}
+use Rattle.layout.specs.declared.Taken.the-variants.{Field, Broken}
+use Rattle.layout.specs.declared.Layout.{Layout}
+use Rattle.layout.specs.declared.Layout.the-variants.{Sound, Broken as Unsound}
+
+-- the degree: one byte
+abbrev pub degreeRule : Rule
+degreeRule = record { tag = degreeTag; least = 1; most = 1; width = 1 }
+
+-- knots: two bytes each
+abbrev pub knotsRule : Rule
+knotsRule = record { tag = knotsTag; least = 0; most = knotBytesMost; width = 2 }
+
+-- x and y: four bytes each
+abbrev pub xRule : Rule
+xRule = record { tag = xTag; least = 0; most = coordinateBytesMost; width = 4 }
+
+abbrev pub yRule : Rule
+yRule = record { tag = yTag; least = 0; most = coordinateBytesMost; width = 4 }
+
+-- a whole number of entries of some width above zero
+abbrev pub wholeEntries : ℕ → ℕ → Bool
+wholeEntries width len = not (eqb width 0) && eqb (len % width) 0
+
+-- a length that a rule allows
+unfoldable pub lengthOk : Rule → ℕ → Bool
+lengthOk rule len = leb (rule .least) len && leb len (rule .most) && wholeEntries (rule .width) len
+
+-- the field that begins at a place, as far as the input goes
+unfoldable pub fieldAt : Rule → List ℕ → ℕ → Taken
+fieldAt rule bytes at =
+    cond (leb (length bytes) at) (Broken (Ended (length bytes)))
+    (cond (not (eqb (getD bytes at 0) (rule .tag))) (Broken (Tag at))
+    (cond (ltb (length bytes) (at + 3)) (Broken (Ended (length bytes)))
+    (cond (not (lengthOk rule (u16At bytes (at + 1)))) (Broken (Length (at + 1)))
+    (cond (ltb (length bytes) (at + 3 + u16At bytes (at + 1))) (Broken (Ended (length bytes)))
+    (Field (u16At bytes (at + 1)))))))
+
+-- what follows a field that was taken; a fault stops the reading
+abbrev pub thenField : Taken → (ℕ → Layout) → Layout
+thenField (Field len) next = next len
+thenField (Broken fault) next = Unsound fault
+
+-- from the y field on, behind knots of k bytes and x of x bytes
+abbrev pub fromY : List ℕ → ℕ → ℕ → Layout
+fromY bytes k x = thenField (fieldAt yRule bytes (10 + k + x)) (λ y. Sound k x y)
+
+-- from the x field on, behind knots of k bytes
+abbrev pub fromX : List ℕ → ℕ → Layout
+fromX bytes k = thenField (fieldAt xRule bytes (7 + k)) (λ x. fromY bytes k x)
+
+-- from the knots' field on
+abbrev pub fromKnots : List ℕ → Layout
+fromKnots bytes = thenField (fieldAt knotsRule bytes 4) (λ k. fromX bytes k)
+
+-- the record at the front of bytes, whatever follows it
+unfoldable pub recordLayout : List ℕ → Layout
+recordLayout bytes = thenField (fieldAt degreeRule bytes 0) (λ d. fromKnots bytes)
+
+-- where a record with fields of these lengths ends
+abbrev pub recordEnd : ℕ → ℕ → ℕ → ℕ
+recordEnd k x y = 13 + k + x + y
+
+-- nothing may follow a lone record
+abbrev pub alone : List ℕ → Layout → Layout
+alone bytes (Sound k x y) = cond (leb (length bytes) (recordEnd k x y)) (Sound k x y) (Unsound (LeftOver (recordEnd k x y)))
+alone bytes (Unsound fault) = Unsound fault
+
+-- bytes that are to be one record and nothing else
+unfoldable pub wholeRecord : List ℕ → Layout
+wholeRecord bytes = alone bytes (recordLayout bytes)

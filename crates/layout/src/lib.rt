@@ -1,0 +1,180 @@
+// Reads the structure of bytes, field by field from the left: sound, or the leftmost fault with its place.
+ghost use mathlib.Core.Path.{_≡_};
+ghost use Prim.Native.Nat.{_+_, _≤_};
+ghost use Rattle.layout.specs.Judging.{lengthOk, fieldAt, degreeRule, knotsRule, xRule, yRule, fromKnots, fromX, fromY, recordLayout, wholeRecord};
+
+// What a field must be: its tag, its least and largest length, and the width of an entry.
+pub struct Rule {
+    pub tag: u8,
+    pub least: usize,
+    pub most: usize,
+    pub width: usize,
+}
+
+// A fault, with its place: the input's length, the tag's place, that of a length's first byte, or of a byte left over.
+pub enum Fault {
+    Ended(usize),
+    Tag(usize),
+    Length(usize),
+    LeftOver(usize),
+}
+
+// A field that was taken: the length of its contents. Or why there is none.
+pub enum Taken {
+    Field(usize),
+    Broken(Fault),
+}
+
+// The lengths of a record's fields of knots, x and y. Or why there is no record.
+pub enum Layout {
+    Sound { knots: usize, xs: usize, ys: usize },
+    Broken(Fault),
+}
+
+// A length within the rule, of whole entries.
+pub fn length_ok(rule: Rule, len: usize) -> bool
+    ensures answer { λ r. ⌜ r ≡ lengthOk rule len ⌝ }
+{
+    let width = rule.width;
+    if len < rule.least {
+        return false;
+    }
+    if rule.most < len {
+        return false;
+    }
+    if width == 0 {
+        return false;
+    }
+    len % width == 0
+}
+
+// Judges the field that begins at `at`: its tag, then its length, then its contents.
+pub fn take_field(bytes: &[u8], at: usize, rule: Rule) -> Taken
+    ensures answer { λ r. ⌜ r ≡ fieldAt rule (now (bytes .entry)) at ⌝ }
+{
+    let len = bytes.len();
+    if len <= at {
+        return Taken::Broken(Fault::Ended(len));
+    }
+    let tag = bytes[at];
+    if tag != rule.tag {
+        return Taken::Broken(Fault::Tag(at));
+    }
+    if len < at + 3 {
+        return Taken::Broken(Fault::Ended(len));
+    }
+    let size = fields::get_u16(bytes, at + 1) as usize;
+    if !length_ok(rule, size) {
+        return Taken::Broken(Fault::Length(at + 1));
+    }
+    if len < at + 3 + size {
+        return Taken::Broken(Fault::Ended(len));
+    }
+    Taken::Field(size)
+}
+
+// What the degree's field must be.
+fn degree_rule() -> Rule
+    ensures answer { λ r. ⌜ r ≡ degreeRule ⌝ }
+{
+    Rule {
+        tag: 1,
+        least: 1,
+        most: 1,
+        width: 1,
+    }
+}
+
+// What the knots' field must be.
+fn knots_rule() -> Rule
+    ensures answer { λ r. ⌜ r ≡ knotsRule ⌝ }
+{
+    Rule {
+        tag: 2,
+        least: 0,
+        most: 2056,
+        width: 2,
+    }
+}
+
+// What the x field must be.
+fn x_rule() -> Rule
+    ensures answer { λ r. ⌜ r ≡ xRule ⌝ }
+{
+    Rule {
+        tag: 3,
+        least: 0,
+        most: 4096,
+        width: 4,
+    }
+}
+
+// What the y field must be.
+fn y_rule() -> Rule
+    ensures answer { λ r. ⌜ r ≡ yRule ⌝ }
+{
+    Rule {
+        tag: 4,
+        least: 0,
+        most: 4096,
+        width: 4,
+    }
+}
+
+// From the y field on.
+fn from_y(bytes: &[u8], knots: usize, xs: usize) -> Layout
+    requires { ⌜ knots + xs ≤ 65536 ⌝ }
+    ensures answer { λ r. ⌜ r ≡ fromY (now (bytes .entry)) knots xs ⌝ }
+{
+    match take_field(bytes, 10 + knots + xs, y_rule()) {
+        Taken::Field(ys) => Layout::Sound { knots, xs, ys },
+        Taken::Broken(fault) => Layout::Broken(fault),
+    }
+}
+
+// From the x field on.
+fn from_x(bytes: &[u8], knots: usize) -> Layout
+    requires { ⌜ knots ≤ 2056 ⌝ }
+    ensures answer { λ r. ⌜ r ≡ fromX (now (bytes .entry)) knots ⌝ }
+{
+    match take_field(bytes, 7 + knots, x_rule()) {
+        Taken::Field(xs) => from_y(bytes, knots, xs),
+        Taken::Broken(fault) => Layout::Broken(fault),
+    }
+}
+
+// From the knots' field on.
+fn from_knots(bytes: &[u8]) -> Layout
+    ensures answer { λ r. ⌜ r ≡ fromKnots (now (bytes .entry)) ⌝ }
+{
+    match take_field(bytes, 4, knots_rule()) {
+        Taken::Field(knots) => from_x(bytes, knots),
+        Taken::Broken(fault) => Layout::Broken(fault),
+    }
+}
+
+// The record at the front of bytes, whatever follows it.
+pub fn record_layout(bytes: &[u8]) -> Layout
+    ensures answer { λ r. ⌜ r ≡ recordLayout (now (bytes .entry)) ⌝ }
+{
+    match take_field(bytes, 0, degree_rule()) {
+        Taken::Field(_) => from_knots(bytes),
+        Taken::Broken(fault) => Layout::Broken(fault),
+    }
+}
+
+// Bytes that are to be one record and nothing else.
+pub fn whole_record(bytes: &[u8]) -> Layout
+    ensures answer { λ r. ⌜ r ≡ wholeRecord (now (bytes .entry)) ⌝ }
+{
+    match record_layout(bytes) {
+        Layout::Sound { knots, xs, ys } => {
+            let end = 13 + knots + xs + ys;
+            if bytes.len() <= end {
+                return Layout::Sound { knots, xs, ys };
+            }
+            Layout::Broken(Fault::LeftOver(end))
+        }
+        Layout::Broken(fault) => Layout::Broken(fault),
+    }
+}
