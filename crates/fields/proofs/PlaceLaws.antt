@@ -6,8 +6,9 @@ use native.Mathlib.Nat.{add-zero, add-assoc, add-comm, mul-zero, mul-suc, mul-le
 use native.Mathlib.Numerals.{add-one}
 use native.Mathlib.Omega.{arith}
 use lib.ListN.{length, getD, take, drop, set, length-append, length-drop, take-append-drop}
-use lib.Seq.{take-at, drop-drop, drop-append-add, drop-cons, take-suc, length-take-le, set-at, append-snoc}
+use lib.Seq.{take-at, drop-drop, drop-append-add, take-suc, length-take-le}
 use Rattle.lent.specs.Lent.{over}
+use Rattle.lent.proofs.OverLaws.{over-more}
 use Rattle.fields.specs.Bytes.{each}
 use Rattle.fields.specs.Places.{entriesAt, putAt}
 
@@ -40,15 +41,6 @@ module _ {A : Type 0} where
   length-putAt before at part h =
       let inside : at ≤ length before = omega arith in
       simp (length-append, length-drop, length-take-le at before inside) (omega arith)
-
-  -- one entry more at the end of a result
-  pub over-more : (result before : List A) (v : A) (i : ℕ) → length result ≡ i → i < length before
-      → set (over result before) i v ≡ over (result ++ (v ∷ [])) before
-  over-more result before v i e h =
-      ap (λ (l : List A). set (result ++ l) i v) (ap (λ (k : ℕ). drop k before) e ∙ drop-cons before i v h)
-      ∙ set-at result (getD before i v) (drop (suc i) before) v i e
-      ∙ sym (append-snoc result v (drop (suc i) before))
-      ∙ ap (λ (k : ℕ). result ++ (v ∷ []) ++ drop k before) (sym (length-append result (v ∷ []) ∙ add-one (length result) ∙ ap suc e))
 
 module _ {A : Type 0} (read : ℕ → A) (width : ℕ) where
   pub length-entriesAt : (at count : ℕ) → length (entriesAt read width at count) ≡ count
@@ -101,7 +93,7 @@ pub read-turn : {A : Type 0} (read : ℕ → A) (width at i place : ℕ) (before
     → now ≡ over (entriesAt read width at i) before → set now i (read place) ≡ over (entriesAt read width at (i + 1)) before
 read-turn {A} read width at i place before now h e k =
     ap (λ (l : List A). set l i (read place)) k
-    ∙ over-more (entriesAt read width at i) before (read place) i (length-entriesAt read width at i) h
+    ∙ over-more (entriesAt read width at i) before (read place) (read place) i (length-entriesAt read width at i) h
     ∙ ap (λ (l : List A). over l before)
     (ap (λ (l : ℕ). entriesAt read width at i ++ (read l ∷ [])) e
     ∙ sym (entriesAt-more read width at i)

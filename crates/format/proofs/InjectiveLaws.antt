@@ -91,6 +91,7 @@ pub record-grouped : (form : KnotsForm) (m : ℕ) (ts : List ℕ) (xs ys : List 
     → recordBytes form m ts xs ys ++ rest
     ≡ fieldBytes degreeTag (m ∷ [])
     ++ (fieldBytes (form .tag) (form .bytesOf ts) ++ (fieldBytes xTag (coordinateBytes xs) ++ (fieldBytes yTag (coordinateBytes ys) ++ rest)))
+unfolding recordBytes
 record-grouped form m ts xs ys rest =
     regrouped (fieldBytes degreeTag (m ∷ [])) (fieldBytes (form .tag) (form .bytesOf ts)) (fieldBytes xTag (coordinateBytes xs))
     (fieldBytes yTag (coordinateBytes ys)) rest

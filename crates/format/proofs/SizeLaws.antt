@@ -12,6 +12,7 @@ use Rattle.format.specs.Format.{KnotsForm, form1, recordBytes, Storable}
 -- four heads of three bytes, the degree's byte, and three contents
 pub length-record : (form : KnotsForm) (m : ℕ) (ts : List ℕ) (xs ys : List ℤ)
     → length (recordBytes form m ts xs ys) ≡ 13 + length (form .bytesOf ts) + length (coordinateBytes xs) + length (coordinateBytes ys)
+unfolding recordBytes
 length-record form m ts xs ys = simp length-append (omega arith)
 
 pub length-knots : (ts : List ℕ) → length (knotBytes ts) ≡ 2 * length ts

@@ -34,7 +34,7 @@ abbrev pub form1 : KnotsForm
 form1 = record { tag = knotsTag; most = knotBytesMost; bytesOf = knotBytes }
 
 -- a record: degree, knots, x and y, each a field, in this order
-abbrev pub recordBytes : KnotsForm → ℕ → List ℕ → List ℤ → List ℤ → List ℕ
+unfoldable pub recordBytes : KnotsForm → ℕ → List ℕ → List ℤ → List ℤ → List ℕ
 recordBytes form m ts xs ys =
     fieldBytes degreeTag (m ∷ [])
     ++ (fieldBytes (form .tag) (form .bytesOf ts)
