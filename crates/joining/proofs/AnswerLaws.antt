@@ -5,8 +5,8 @@ use Prim.Native.Nat.{ℕ}
 use lib.IntN.{ℤ}
 use borrow.Author.Tests.{ne-eqb}
 use Rattle.lent.specs.Lent.{over, after}
-use Rattle.joining.specs.Pieces.{pieces}
-use Rattle.joining.specs.Curve.{joinedKnots, joinedPoints}
+use Rattle.spline_pieces.specs.Pieces.{pieces}
+use Rattle.joined_curve.specs.Curve.{joinedKnots, joinedPoints}
 use Rattle.joining.specs.Answer.{joinAnswer, JoinedOver}
 use Rattle.joining.specs.declared.JoinAnswer.the-variants.{Joined, Refused}
 

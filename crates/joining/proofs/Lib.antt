@@ -1,9 +1,5 @@
--- Laws of joining.
-pub mod ThirdLaws
+-- Laws of the joining call.
 pub mod RisingLaws
 pub mod StandingLaws
-pub mod GridLaws
-pub mod PieceLaws
-pub mod CurveLaws
-pub mod WritingLaws
+pub mod RoomLaws
 pub mod AnswerLaws

@@ -4,7 +4,7 @@ use mathlib.Core.List.{List, [], _∷_}
 use mathlib.Core.Path.{_≡_, _∙_}
 use Prim.Native.Nat.{ℕ, zero, suc, _+_, _≤_, _<_}
 use native.Mathlib.Numerals.{add-one}
-use native.Mathlib.Nat.{le-of-suc-le-suc, le-of-lt}
+use native.Mathlib.Nat.{le-of-suc-le-suc}
 use native.Mathlib.Omega.{arith}
 use lib.Dec.{leb}
 use lib.ListN.{length, getD, drop, drop-of-length-le}
@@ -13,7 +13,6 @@ use borrow.Author.Tests.{le-leb, lt-leb, leb-true}
 use Rattle.grid.specs.Limits.{knotMost}
 use Rattle.grid.proofs.OrderLaws.{both}
 use Rattle.joining.specs.Answer.{risesStrictlyFrom}
-use Rattle.joining.specs.Standing.{Rising}
 
 module _ (ss : List ℕ) (low i : ℕ) where
   step : i < length ss
@@ -57,7 +56,3 @@ pub rises-most : (low : ℕ) (ss : List ℕ) → risesStrictlyFrom low ss ≡ tr
 rises-most low [] e i = omega arith
 rises-most low (s ∷ ss) e zero = rises-parts low s ss e .1
 rises-most low (s ∷ ss) e (suc i) = rises-most (suc s) ss (rises-parts low s ss e .2) i
-
--- a piece has its width
-pub rising-next : (ss : List ℕ) → Rising ss → (i : ℕ) → i + 1 < length ss → getD ss i 0 ≤ getD ss (i + 1) 0
-rising-next ss r i h = rw (add-one i) (le-of-lt (r .rises i (omega arith)))

@@ -11,9 +11,9 @@ use Rattle.refusal.proofs.JudgingLaws.{unless-accepted}
 use Rattle.grid.specs.Limits.{splinePointsLeast, splinePointsMost}
 use Rattle.grid.specs.Rows.{rangeOk, allOnGrid}
 use Rattle.grid.proofs.OrderLaws.{both}
-use Rattle.joining.specs.Pieces.{pieces, allWhole, allPiecesOnGrid}
+use Rattle.spline_pieces.specs.Pieces.{pieces, allWhole, allPiecesOnGrid}
 use Rattle.joining.specs.Answer.{risesStrictlyFrom, splineCountOk, countsAgree, splinePointsOk, roomOk, joinRefusal}
-use Rattle.joining.specs.Standing.{Rising, Axis}
+use Rattle.spline_pieces.specs.Standing.{Rising, Axis}
 use Rattle.joining.proofs.RisingLaws.{rises-next}
 
 pub rising-of : (ss : List ℕ) → splineCountOk (length ss) ≡ true → risesStrictlyFrom 0 ss ≡ true → Rising ss

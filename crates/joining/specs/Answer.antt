@@ -12,8 +12,8 @@ use Rattle.refusal.specs.Numbers.{accepted, rangeRefused, notWholeRefused, room
 use Rattle.lent.specs.Lent.{after}
 use Rattle.grid.specs.Limits.{knotMost, splinePointsLeast, splinePointsMost}
 use Rattle.grid.specs.Rows.{rangeOk}
-use Rattle.joining.specs.Pieces.{Piece, pieces, allWhole, allPiecesOnGrid}
-use Rattle.joining.specs.Curve.{joinedKnots, joinedPoints}
+use Rattle.spline_pieces.specs.Pieces.{Piece, pieces, allWhole, allPiecesOnGrid}
+use Rattle.joined_curve.specs.Curve.{joinedKnots, joinedPoints}
 use Rattle.joining.specs.declared.JoinAnswer.{JoinAnswer}
 use Rattle.joining.specs.declared.JoinAnswer.the-variants.{Joined, Refused}
 

@@ -1,5 +1,2 @@
--- Joining spline points: the pieces, the curve taken from them, and what the call answers.
-pub mod Pieces
-pub mod Curve
+-- What the joining call answers.
 pub mod Answer
-pub mod Standing

@@ -1,8 +1,5 @@
 // Joining spline points into a B-spline of degree 3.
-mod axis;
 mod counts;
-mod thirds;
-mod writing;
 
 ghost use mathlib.Core.Bool.{_&&_};
 ghost use mathlib.Core.Path.{_≡_};
@@ -10,8 +7,8 @@ ghost use Prim.Native.Nat.{_+_, _-_, _*_, _≤_};
 ghost use lib.Dec.{leb};
 ghost use lib.ListN.{length};
 ghost use Rattle.joining.specs.Answer.{joinRefusal, joinAnswer, JoinedOver};
-ghost use Rattle.joining.specs.Curve.{innerKnots, joinedPoints};
-ghost use Rattle.joining.specs.Pieces.{pieces};
+ghost use Rattle.joined_curve.specs.Curve.{innerKnots, joinedPoints};
+ghost use Rattle.spline_pieces.specs.Pieces.{pieces};
 
 // How many points the joined curve has, or the number of refusal.
 pub enum JoinAnswer {
@@ -53,10 +50,10 @@ fn join_refusal(
     if !counts::all_in_range(px, py, tx, ty) {
         return refusal::RANGE;
     }
-    if !axis::all_whole(params, tx, ty) {
+    if !spline_pieces::all_whole(params, tx, ty) {
         return refusal::NOT_WHOLE;
     }
-    if !axis::all_pieces_on_grid(params, px, py, tx, ty) {
+    if !spline_pieces::all_pieces_on_grid(params, px, py, tx, ty) {
         return refusal::JOINED_RANGE;
     }
     if !room_ok(params.len(), knot_places, x_places, y_places) {
@@ -92,8 +89,8 @@ pub fn join_through_points(
     if number != refusal::ACCEPTED {
         return JoinAnswer::Refused(number);
     }
-    writing::write_knots(params, out_knots);
-    writing::write_points(params, px, tx, out_xs);
-    writing::write_points(params, py, ty, out_ys);
+    joined_curve::write_knots(params, out_knots);
+    joined_curve::write_points(params, px, tx, out_xs);
+    joined_curve::write_points(params, py, ty, out_ys);
     JoinAnswer::Joined(3 * params.len() - 2)
 }

@@ -5,11 +5,11 @@ use lib.ListN.{length}
 use borrow.Author.Needs.{needs}
 use Rattle.refusal.proofs.JudgingLaws.{test-failed, test-passed}
 use Rattle.grid.specs.Rows.{rangeOk}
-use Rattle.joining.specs.Pieces.{pieces, allWhole, allPiecesOnGrid}
-use Rattle.joining.specs.Curve.{innerKnots}
+use Rattle.spline_pieces.specs.Pieces.{pieces, allWhole, allPiecesOnGrid}
+use Rattle.joined_curve.specs.Curve.{innerKnots}
 use Rattle.joining.specs.Answer.{splinePointsOk, roomOk, joinRefusal}
 use Rattle.joining.proofs.StandingLaws.{x-axis, y-axis, points-on-grid}
-use Rattle.joining.proofs.CurveLaws.{room-is}
+use Rattle.joining.proofs.RoomLaws.{room-is}
 use Rattle.joining.proofs.join_refusal.Statement.{statement}
 use Rattle.joining.proofs.join_refusal.Tie as tie
 

@@ -4,12 +4,13 @@ use Prim.Native.Nat.{_+_, _-_, _*_, _≤_}
 use native.Mathlib.Omega.{arith}
 use lib.ListN.{length}
 use borrow.Author.Needs.{needs}
-use Rattle.joining.specs.Curve.{innerKnots}
+use Rattle.joined_curve.specs.Curve.{innerKnots}
 use Rattle.joining.specs.Answer.{joinRefusal}
-use Rattle.joining.specs.Standing.{Axis}
+use Rattle.spline_pieces.specs.Standing.{Axis}
 use Rattle.joining.specs.declared.JoinAnswer.the-variants.{Joined}
 use Rattle.joining.proofs.StandingLaws.{Accepted, accepted-of, x-axis, y-axis}
-use Rattle.joining.proofs.CurveLaws.{points-length, room-says}
+use Rattle.joined_curve.proofs.CurveLaws.{points-length}
+use Rattle.joining.proofs.RoomLaws.{room-says}
 use Rattle.joining.proofs.AnswerLaws.{refused-answer, refused-over, joined-answer, joined-over}
 use Rattle.joining.proofs.join_through_points.Statement.{statement}
 use Rattle.joining.proofs.join_through_points.Tie as tie

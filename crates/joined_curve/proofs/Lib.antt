@@ -1,0 +1,3 @@
+-- Laws of the joined curve.
+pub mod CurveLaws
+pub mod WritingLaws

@@ -1,0 +1,2 @@
+-- The curve that is taken from pieces.
+pub mod Curve
