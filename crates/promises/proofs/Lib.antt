@@ -1,0 +1,2 @@
+-- Every promise, proved.
+pub mod Proved

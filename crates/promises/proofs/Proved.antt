@@ -1,0 +1,32 @@
+-- Every promise of specs/Promises.antt, proved under its own name.
+use mathlib.Core.Path.{_≡_, sym}
+use Prim.Native.Nat.{suc, _+_}
+use native.Mathlib.Numerals.{add-one}
+use lib.ListN.{length, getD}
+use Rattle.checked.proofs.CheckedLaws.{checked-of-passes}
+use Rattle.checked.proofs.SentenceLaws.{check-answers, check-answers-none}
+use Rattle.span.specs.Span.{spanOf}
+use Rattle.span.proofs.SpanLaws.{span-unique, span-holds, inDomain-says}
+use Rattle.exact.proofs.DomainLaws.{domain-span}
+use Rattle.point_at_exact.proofs.PointNearLaws.{point-near-exact}
+use Rattle.spans_met_exact.proofs.CrossingLaws.{every-crossing-reported}
+use Rattle.promises.specs.Promises.{CheckGivesLowestRow, EveryParameterHasItsSpan, ComputedPointNearExact, CrossingsReported}
+
+pub check-gives-lowest-row : CheckGivesLowestRow
+check-gives-lowest-row m ts xs ys = (check-answers m ts xs ys, check-answers-none m ts xs ys)
+
+pub every-parameter-has-its-span : EveryParameterHasItsSpan
+every-parameter-has-its-span m ts xs ys p q passes inside =
+    let n = Prim.Native.Nat._-_ (length xs) 1 in
+    let it = domain-span m ts xs ys (checked-of-passes m ts xs ys passes) p q inside in (
+      it,
+      λ i s.
+          let holds = span-holds ts m n p q i s (inDomain-says ts m n p q inside .1) in
+          (span-unique ts m n p q i (spanOf ts m n p q) s it, holds .0, rw (add-one i) at (holds .1)),
+    )
+
+pub computed-point-near-exact : ComputedPointNearExact
+computed-point-near-exact = point-near-exact
+
+pub crossings-reported : CrossingsReported
+crossings-reported = every-crossing-reported

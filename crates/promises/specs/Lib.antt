@@ -1,0 +1,2 @@
+-- What Tsaghnobir promises.
+pub mod Promises

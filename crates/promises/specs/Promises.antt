@@ -1,0 +1,38 @@
+-- What Tsaghnobir promises beyond the contracts of its calls, a statement each. Every word stands in the definitions that those contracts
+-- cite; `proofs/Proved.antt` proves each statement under the same name.
+use mathlib.Core.Bool.{true}
+use mathlib.Core.List.{List}
+use mathlib.Core.Logic.{_↔_}
+use mathlib.Core.Path.{_≡_}
+use Prim.Native.Nat.{ℕ, suc, _-_, _*_, _≤_, _<_}
+use lib.IntN.{ℤ}
+use lib.ListN.{length, getD}
+use Rattle.grid.specs.Check.{checkNumber, Passes}
+use Rattle.checked.specs.Sentences.{RowApplies}
+use Rattle.span.specs.Span.{IsSpan, spanOf, inDomain}
+use Rattle.point_at_exact.specs.PointNear.{PointNearExact}
+use Rattle.spans_met_exact.specs.Crossing.{EveryCrossingReported}
+
+-- "Numbers of refusal": the check answers n exactly when row n applies and no lower row does, and 0 exactly when no row does
+abbrev pub CheckGivesLowestRow : Type 0
+CheckGivesLowestRow =
+    (m : ℕ) (ts : List ℕ) (xs ys : List ℤ)
+    → ((n : ℕ) → (checkNumber m ts xs ys ≡ suc n) ↔ (RowApplies (suc n) m ts xs ys × ((i : ℕ) → i < suc n → RowApplies i m ts xs ys → ⊥)))
+    × ((checkNumber m ts xs ys ≡ 0) ↔ ((i : ℕ) → RowApplies i m ts xs ys → ⊥))
+
+-- "The point at a parameter": every fraction p/q of the domain of a curve that passes has exactly one span, `spanOf` is it, and it holds p/q
+abbrev pub EveryParameterHasItsSpan : Type 0
+EveryParameterHasItsSpan =
+    (m : ℕ) (ts : List ℕ) (xs ys : List ℤ) (p q : ℕ) → Passes m ts xs ys → inDomain ts m (length xs - 1) p q ≡ true
+    → IsSpan ts m (length xs - 1) p q (spanOf ts m (length xs - 1) p q)
+    × ((i : ℕ) → IsSpan ts m (length xs - 1) p q i → (i ≡ spanOf ts m (length xs - 1) p q) × (getD ts i 0 * q ≤ p) × (p ≤ getD ts (suc i) 0 * q))
+
+-- "The point at a parameter", demand 3: at each whole parameter of the domain both computed coordinates are finite and less than 2 ^ -30 from the
+-- exact point's
+abbrev pub ComputedPointNearExact : Type 0
+ComputedPointNearExact = PointNearExact
+
+-- "Spans to check", demand 3: where the exact point at any fraction of the domain lies in or on an accepted clamp, a span that holds this
+-- parameter is on the list
+abbrev pub CrossingsReported : Type 0
+CrossingsReported = EveryCrossingReported
