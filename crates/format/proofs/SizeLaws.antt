@@ -24,3 +24,7 @@ length-coordinates = length-each i32Bytes 4 (λ _. refl)
 -- no record of form 1 is longer than 10,261 bytes
 pub record-most : (m : ℕ) (ts : List ℕ) (xs ys : List ℤ) → Storable form1 m ts xs ys → length (recordBytes form1 m ts xs ys) ≤ 10261
 record-most m ts xs ys s = omega (arith, length-record form1 m ts xs ys, s .knotRoom, s .xRoom, s .yRoom)
+
+-- the length of a record of form 1, by its lists
+pub record-size : (m : ℕ) (ts : List ℕ) (xs ys : List ℤ) → length (recordBytes form1 m ts xs ys) ≡ 13 + 2 * length ts + 4 * length xs + 4 * length ys
+record-size m ts xs ys = omega (arith, length-record form1 m ts xs ys, length-knots ts, length-coordinates xs, length-coordinates ys)

@@ -1,0 +1,2 @@
+-- What writing and reading a record answer.
+pub mod Writing
