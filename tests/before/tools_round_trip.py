@@ -1,0 +1,118 @@
+"""tools/job.py: a description becomes the job that the second program would write, comes back unchanged, and bad ones are
+told of with their line. The jobs in examples/ are those of their descriptions, and tools/draw.py draws what it is told."""
+
+import pathlib
+import random
+import subprocess
+import sys
+import tempfile
+
+TOP = pathlib.Path(__file__).resolve().parents[2]
+sys.path[:0] = [str(TOP / "tools"), str(TOP / "tests")]
+
+import draw  # noqa: E402
+import job as jobs  # noqa: E402
+from second_program.curve import Curve  # noqa: E402
+from second_program.record import clampcheck_text, record_of, take_job  # noqa: E402
+from second_program.record_cases import clamp_fields  # noqa: E402
+
+SOUND = "degree 1\nknots 0 0 1 1\npoint 0 0\npoint 5 5\n"
+BAD = [
+    ("", "no line with the degree"),
+    ("knots 0 0 1 1\n", "no line with the degree"),
+    (SOUND + "degree 2\n", "line 5: the degree is given a second time"),
+    (SOUND + "radius 3\n", "line 5: 'radius' is none of"),
+    (SOUND + "point 3\n", "line 5: point takes two numbers"),
+    (SOUND + "point 3 4 5\n", "line 5: point takes two numbers"),
+    (SOUND + "clamp 1 2 3\n", "line 5: clamp takes four numbers"),
+    (SOUND + "clamp 1 2 3 4.5\n", "line 5: '4.5' is no whole number"),
+    (SOUND + "point 1 --2\n", "line 5: '--2' is no whole number"),
+    (SOUND + "# fine\n\nknots\n", "line 7: knots takes whole numbers"),
+    (SOUND + "knots 65536\n", "line 5: 65536 does not fit"),
+    (SOUND + "knots -1\n", "line 5: -1 does not fit"),
+    (SOUND + "point 2147483648 0\n", "line 5: 2147483648 does not fit"),
+    ("degree 256\n", "line 1: 256 does not fit"),
+    ("degree\n", "line 1: degree takes one number"),
+    (SOUND + "clamp 0 1 0 1\n" * 65, "65 clamps are more than the 64"),
+    (SOUND + "point 0 0\n" * 1023, "1025 points are more than the 1024"),
+    (SOUND + "knots 1 1 1 1\n" * 257, "1032 knots are more than the 1028"),
+]
+BAD_JOBS = [
+    (b"", "byte 0: the job ends inside a field"),
+    (b"\x02\x01\x00\x03", "byte 0: tag 2 where 1 belongs"),
+    (b"\x01\x02\x00\x03\x03", "byte 1: the degree is one byte"),
+    (b"\x01\x01\x00\x03\x02\x01\x00\x07", "byte 5: a length of 1 is no whole number"),
+    (b"\x01\x01\x00\x03\x02\x02\x00\x07", "byte 8: the job ends inside a field"),
+]
+
+
+def random_job(dice):
+    wide = lambda: dice.choice((0, -1, 1, -(2**31), 2**31 - 1, dice.randint(-(2**31), 2**31 - 1)))
+    return jobs.Job(
+        dice.randint(0, 255),
+        [dice.randint(0, 65535) for _ in range(dice.choice((0, 1, 16, 17, 1028)))],
+        [(wide(), wide()) for _ in range(dice.choice((0, 1, 5, 1024)))],
+        [(wide(), wide(), wide(), wide()) for _ in range(dice.choice((0, 1, 64)))],
+    )
+
+
+def expect_fault(read, given, words):
+    try:
+        read(given)
+    except (jobs.BadText, jobs.BadJob) as fault:
+        assert words in str(fault), "%r is told as %r and not as %r" % (given[:40], str(fault), words)
+    else:
+        raise AssertionError("%r was accepted" % (given[:60],))
+
+
+def round_trips():
+    dice = random.Random(1024)
+    for _ in range(60):
+        job = random_job(dice)
+        data = jobs.write_job(job)
+        curve = Curve(job.degree, job.knots, *([point[axis] for point in job.points] for axis in (0, 1)))
+        assert data == record_of(curve) + clamp_fields(job.clamps), "the job is not what the second program writes"
+        assert take_job(data) == (curve, job.clamps), "the second program reads another job"
+        text = jobs.write_text(job)
+        assert jobs.read_text(text) == job and jobs.read_job(data) == job, "a job came back changed"
+        assert jobs.write_text(jobs.read_job(jobs.write_job(jobs.read_text(text)))) == text, "a text came back changed"
+
+
+def examples():
+    texts = sorted((TOP / "examples").glob("*.txt"))
+    assert texts, "there are no examples"
+    for text in texts:
+        data = text.with_suffix(".job").read_bytes()
+        assert data == jobs.write_job(jobs.read_text(text.read_text())), "%s is not the job of its text" % text.name
+        number, output = clampcheck_text(data)
+        assert number == 0, "%s is refused" % text.name
+        picture = draw.draw(jobs.read_job(data), output)
+        red, green = (picture.count('stroke="%s" stroke-width="2.5"' % colour) for colour in (draw.RED, draw.GREEN))
+        met = {line.split()[1] for line in output.splitlines() if "may meet" in line}
+        assert (red, green) == (len(met), output.count("clear")), "%s is drawn in the wrong colours" % text.name
+
+
+def commands():
+    with tempfile.TemporaryDirectory() as folder:
+        out, back = pathlib.Path(folder, "out.job"), pathlib.Path(folder, "back.txt")
+        sample = TOP / "examples" / "worked"
+        run = lambda *words: subprocess.run([sys.executable, TOP / "tools" / "job.py", *map(str, words)], capture_output=True)
+        assert run("make", sample.with_suffix(".txt"), out).returncode == 0
+        assert out.read_bytes() == sample.with_suffix(".job").read_bytes(), "make wrote another job"
+        assert run("show", out, back).returncode == 0
+        assert jobs.read_text(back.read_text()) == jobs.read_job(out.read_bytes()), "show wrote another text"
+        assert run("show", out).stdout.decode() == back.read_text(), "show prints another text than it writes"
+        out.write_text("degree x\n")
+        ended = run("make", out, back)
+        assert ended.returncode == 1 and b"line 1: 'x' is no whole number" in ended.stderr, "a bad text is not told of"
+        assert run("make", pathlib.Path(folder, "none"), back).returncode == 1
+
+
+round_trips()
+for given, words in BAD:
+    expect_fault(jobs.read_text, given, words)
+for given, words in BAD_JOBS:
+    expect_fault(jobs.read_job, given, words)
+examples()
+commands()
+print("tools/job.py and tools/draw.py: 60 round trips, %d bad texts, %d bad jobs, the examples" % (len(BAD), len(BAD_JOBS)))

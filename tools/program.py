@@ -1,0 +1,40 @@
+"""Runs the built clampcheck: directly on x86-64, under the kit's emulator on any other machine."""
+
+import os
+import pathlib
+import platform
+import shutil
+import subprocess
+
+TOP = pathlib.Path(__file__).resolve().parents[1]
+PROGRAM = TOP / "target" / "bin" / "clampcheck"
+
+
+class NotBuilt(Exception):
+    """There is no program yet, or no kit to run it with."""
+
+
+def toolchain():
+    """The kit's folder of compiled tools for this machine."""
+    found = shutil.which("rt")
+    home = os.environ.get("RATTLE_HOME") or (found and pathlib.Path(found).resolve().parents[1])
+    tools = pathlib.Path(home or "/nowhere") / "on" / platform.machine() / "toolchain"
+    if not tools.is_dir():
+        raise NotBuilt("the Rattle kit (`rt`) is not on the PATH, or has nothing for %s" % platform.machine())
+    return tools
+
+
+def command():
+    """The words that start clampcheck, with the kit's own loader and C library, as `rt` starts it."""
+    if not PROGRAM.is_file():
+        raise NotBuilt("target/bin/clampcheck is not there: `rt check clampcheck` builds it")
+    tools = toolchain()
+    emulator = tools / "bin" / "qemu-x86_64"
+    words = [tools / "lib" / "ld-linux-x86-64.so.2", "--library-path", tools / "lib", PROGRAM]
+    return [str(word) for word in ([emulator] if emulator.is_file() else []) + words]
+
+
+def clampcheck(job):
+    """What clampcheck prints on a job's bytes."""
+    ended = subprocess.run(command(), input=job, stdout=subprocess.PIPE, check=True, timeout=60)
+    return ended.stdout.decode("ascii")
