@@ -1,39 +1,48 @@
 // Input that no curve has.
-pub(crate) fn lists() {
+
+// The first n entries, or all where there are no more.
+fn first_knots(s: &[u16], n: usize) -> &[u16] {
+    if n < s.len() {
+        return &s[0..n];
+    }
+    s
+}
+
+fn first_points(s: &[i32], n: usize) -> &[i32] {
+    if n < s.len() {
+        return &s[0..n];
+    }
+    s
+}
+
+// Curve A with so many knots, x and y.
+fn cut(name: &[u8], degree: u32, k: usize, x: usize, y: usize) {
     let knots = [0u16, 0, 0, 0, 4, 4, 4, 4];
     let xs = [0i32, 0, 8, 8];
     let ys = [0i32, 8, 8, 0];
-    let all: &[u16] = &knots;
-    let wide: &[i32] = &xs;
-    let high: &[i32] = &ys;
-    crate::print::point(b"empty lists", 1, &all[0..0], &wide[0..0], &high[0..0], 0);
-    crate::print::point(b"lists of one", 1, &all[0..1], &wide[0..1], &high[0..1], 0);
-    crate::print::point(b"no y", 3, all, wide, &high[0..0], 0);
-    crate::print::point(b"3 y for 4 x", 3, all, wide, &high[0..3], 0);
-    crate::print::point(b"7 knots for 4 points", 3, &all[0..7], wide, high, 0);
-    crate::print::point(b"no knots", 3, &all[0..0], wide, high, 0);
+    point_lines::point(
+        name,
+        degree,
+        first_knots(&knots, k),
+        first_points(&xs, x),
+        first_points(&ys, y),
+        0,
+    );
 }
 
-fn of_65536(many: &[i32], knots: &[u16], few: &[i32]) {
-    crate::print::point(b"65536 points and knots", 3, knots, many, many, 0);
-    crate::print::point(b"65536 x for 4 y", 3, knots, many, few, 0);
-    crate::print::point(b"65536 knots for 4 points", 3, knots, few, few, 0);
-}
-
-pub(crate) fn long_lists() {
-    let many = [0i32; 65536];
-    let knots = [0u16; 65536];
-    let few = [0i32, 0, 8, 8];
-    of_65536(&many, &knots, &few);
+pub(crate) fn lists() {
+    cut(b"empty lists", 1, 0, 0, 0);
+    cut(b"lists of one", 1, 1, 1, 1);
+    cut(b"no y", 3, 8, 4, 0);
+    cut(b"3 y for 4 x", 3, 8, 4, 3);
+    cut(b"7 knots for 4 points", 3, 7, 4, 4);
+    cut(b"no knots", 3, 0, 4, 4);
 }
 
 pub(crate) fn numbers() {
-    let knots = [0u16, 0, 0, 0, 4, 4, 4, 4];
-    let xs = [0i32, 0, 8, 8];
-    let ys = [0i32, 8, 8, 0];
-    crate::print::point(b"degree 0", 0, &knots, &xs, &ys, 0);
-    crate::print::point(b"degree 4", 4, &knots, &xs, &ys, 0);
-    crate::print::point(b"degree 4294967295", 4294967295, &knots, &xs, &ys, 0);
-    crate::print::point(b"parameter 4294967295", 3, &knots, &xs, &ys, 4294967295);
-    crate::print::point(b"parameter 65537", 3, &knots, &xs, &ys, 65537);
+    crate::worked::a(b"degree 0", 0, 0);
+    crate::worked::a(b"degree 4", 4, 0);
+    crate::worked::a(b"degree 4294967295", 4294967295, 0);
+    crate::worked::a(b"parameter 4294967295", 3, 4294967295);
+    crate::worked::a(b"parameter 65537", 3, 65537);
 }

@@ -1,4 +1,4 @@
-// One line for each answer. A coordinate is printed as its 64 bits, in 16 hexadecimal digits.
+// One line for each answer of the check, the point and the carrying coordinates. A coordinate is printed as its 64 bits, in 16 hexadecimal digits.
 use carrying::Axis;
 use libc::STDOUT_FILENO;
 use point_at::PointAnswer;
@@ -38,12 +38,12 @@ fn answer(name: &[u8], a: PointAnswer) {
 }
 
 // The point of a curve at t.
-pub(crate) fn point(name: &[u8], degree: u32, knots: &[u16], xs: &[i32], ys: &[i32], t: u32) {
+pub fn point(name: &[u8], degree: u32, knots: &[u16], xs: &[i32], ys: &[i32], t: u32) {
     answer(name, point_at::point_at(degree, knots, xs, ys, t));
 }
 
 // What the check says of a curve.
-pub(crate) fn check(name: &[u8], degree: u32, knots: &[u16], xs: &[i32], ys: &[i32]) {
+pub fn check(name: &[u8], degree: u32, knots: &[u16], xs: &[i32], ys: &[i32]) {
     text(name);
     text(b": check ");
     number(grid::check(degree, knots, xs, ys));
@@ -69,7 +69,7 @@ fn entries(part: &[i32]) {
 }
 
 // The carrying coordinates of a curve at t on one axis, and the refusal number.
-pub(crate) fn carrying<'a>(
+pub fn carrying<'a>(
     name: &[u8],
     degree: u32,
     knots: &[u16],

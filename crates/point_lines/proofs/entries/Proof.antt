@@ -1,11 +1,11 @@
--- `point_runs::print::entries` meets its contract: the loop goes through the part and ends.
+-- `point_lines::entries` meets its contract: the loop goes through the part and ends.
 use mathlib.Core.Path.{_≡_}
 use Prim.Native.Nat.{_≤_, _-_}
 use native.Mathlib.Omega.{arith}
 use borrow.Author.Needs.{needs}
 use lib.ListN.{length}
-use Rattle.point_runs.proofs.print.entries.Statement.{statement}
-use Rattle.point_runs.proofs.print.entries.Tie as tie
+use Rattle.point_lines.proofs.entries.Statement.{statement}
+use Rattle.point_lines.proofs.entries.Tie as tie
 
 abbrev Inv-loop : tie.InvT-loop
 Inv-loop part k₀ t3 k = k ≤ length part

@@ -1,4 +1,4 @@
--- `point_runs::print::whole` meets its contract: a signed number that is not below zero is an unsigned one.
+-- `point_lines::whole` meets its contract: a signed number that is not below zero is an unsigned one.
 use mathlib.Core.Bool.{false, true≢false}
 use mathlib.Core.Path.{_≡_}
 use native.Mathlib.Omega.{arith}
@@ -9,8 +9,8 @@ use mir.Syntax.{w32}
 use mir.Val.{Fits, SFits, toZ, ofZ}
 use mir.Facts.{toZ-ofZ}
 use borrow.Author.Needs.{needs}
-use Rattle.point_runs.proofs.print.whole.Statement.{statement}
-use Rattle.point_runs.proofs.print.whole.Tie as tie
+use Rattle.point_lines.proofs.whole.Statement.{statement}
+use Rattle.point_lines.proofs.whole.Tie as tie
 
 unsigned-fits : (z : ℤ) → SFits w32 z → ltZ z (pos 0) ≡ false → T (nonNeg z) × Fits w32 (natAbs z)
 unsigned-fits (pos n) h e = (tt, record { fits = omega (arith, h .sfits) })

@@ -1,11 +1,11 @@
--- `point_runs::print::coordinate` meets its contract: what equals itself is no NaN, and so it has bits.
+-- `point_lines::coordinate` meets its contract: what equals itself is no NaN, and so it has bits.
 use mathlib.Core.Bool.{true, false, not, true≢false}
 use mathlib.Core.Path.{_≡_}
 use lib.Dec.{T}
 use lib.Ieee.{Float, nan, inf, fin, ne, eq, isNan}
 use borrow.Author.Needs.{needs}
-use Rattle.point_runs.proofs.print.coordinate.Statement.{statement}
-use Rattle.point_runs.proofs.print.coordinate.Tie as tie
+use Rattle.point_lines.proofs.coordinate.Statement.{statement}
+use Rattle.point_lines.proofs.coordinate.Tie as tie
 
 number-of-equal : (x : Float) → ne x x ≡ false → T (not (isNan x))
 unfolding ne eq isNan

@@ -1,11 +1,11 @@
--- `point_runs::limits::ramp` meets its contract: the loop keeps the list's length.
+-- `limit_runs::ramp` meets its contract: the loop keeps the list's length.
 use mathlib.Core.Path.{_≡_, refl}
 use Prim.Native.Nat.{_≤_, _-_}
 use native.Mathlib.Omega.{arith}
 use borrow.Author.Needs.{needs}
 use lib.ListN.{length, length-set}
-use Rattle.point_runs.proofs.limits.ramp.Statement.{statement}
-use Rattle.point_runs.proofs.limits.ramp.Tie as tie
+use Rattle.limit_runs.proofs.ramp.Statement.{statement}
+use Rattle.limit_runs.proofs.ramp.Tie as tie
 
 abbrev Inv-loop : tie.InvT-loop
 Inv-loop knots₀ n k₀ knots k = (1 ≤ k) × (length knots ≡ n) × (length knots₀ ≡ n)
