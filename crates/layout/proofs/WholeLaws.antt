@@ -71,7 +71,7 @@ record-whole m ts xs ys bytes s e =
     rw (record-layout m ts xs ys [] bytes s (e ∙ sym (append-nil (recordBytes form1 m ts xs ys))), le-leb (length bytes) (recordEnd k x y) inside)
 
 -- the two together: sound exactly where the bytes are a record
-pub record-of-sound : (bytes : List ℕ) → Octets bytes → (k x y : ℕ) → wholeRecord bytes ≡ Sound k x y → IsRecord form1 bytes
+abbrev pub record-of-sound : (bytes : List ℕ) → Octets bytes → (k x y : ℕ) → wholeRecord bytes ≡ Sound k x y → IsRecord form1 bytes
 record-of-sound bytes octets k x y e =
     record {
       m = degreeIn bytes;

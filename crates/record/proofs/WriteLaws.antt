@@ -1,5 +1,5 @@
 -- What writing answers, way by way.
-use mathlib.Core.Path.{_≡_, _∙_}
+use mathlib.Core.Path.{_≡_, sym, _∙_}
 use mathlib.Core.List.{List}
 use Prim.Native.Nat.{ℕ, _<_, _≤_}
 use native.Mathlib.Nat.{zero-add}
@@ -27,9 +27,14 @@ module _ (m : ℕ) (ts : List ℕ) (xs ys : List ℤ) (out : List ℕ) where
   unfolding writeAnswer
   refused-by number e n = (rw (e, ne-eqb number 0 n), rw (e, ne-eqb number 0 n))
 
-  pub write-checked : (checkNumber m ts xs ys ≡ 0 → ⊥) → writeNumber m ts xs ys out ≡ checkNumber m ts xs ys
+  write-checked : (checkNumber m ts xs ys ≡ 0 → ⊥) → writeNumber m ts xs ys out ≡ checkNumber m ts xs ys
   unfolding writeNumber
   write-checked h = checkedThen-refused m ts xs ys _ h
+
+  -- the check refuses
+  pub write-stopped : (number : ℕ) → number ≡ checkNumber m ts xs ys → (number ≡ 0 → ⊥)
+      → (Refused number ≡ writeAnswer m ts xs ys out) × (out ≡ after (writeNumber m ts xs ys out) (recordBytes form1 m ts xs ys) out)
+  write-stopped number e n = refused-by number (write-checked (λ z. n (e ∙ z)) ∙ sym e) n
 
   module _ (passes : checkNumber m ts xs ys ≡ 0) where
     pub write-short : length out < length (recordBytes form1 m ts xs ys) → writeNumber m ts xs ys out ≡ roomRefused

@@ -1,2 +1,3 @@
 -- What writing and reading a record answer.
 pub mod Writing
+pub mod Reading

@@ -1,14 +1,23 @@
 // Writes a curve as a record, and reads one.
+mod getting;
 mod putting;
 
+use layout::Layout;
 ghost use mathlib.Core.Path.{_≡_};
 ghost use Rattle.lent.specs.Lent.{after};
 ghost use Rattle.format.specs.Format.{form1, recordBytes};
+ghost use Rattle.record.specs.Reading.{RecordRead};
 ghost use Rattle.record.specs.Writing.{writeNumber, writeAnswer};
 
 // How many bytes a record has, or why there is none.
 pub enum WriteAnswer {
     Written(usize),
+    Refused(u32),
+}
+
+// Degree and number of points of a curve that was read, or why there is none.
+pub enum ReadAnswer {
+    Curve { degree: u32, points: usize },
     Refused(u32),
 }
 
@@ -36,4 +45,28 @@ pub fn write_record(
     }
     putting::put_record(degree, knots, xs, ys, out);
     WriteAnswer::Written(size)
+}
+
+// Reads the record's curve into the front of three lists.
+pub fn read_record(
+    bytes: &[u8],
+    out_knots: &mut [u16],
+    out_xs: &mut [i32],
+    out_ys: &mut [i32],
+) -> ReadAnswer
+    ensures answer { λ r. ⌜ RecordRead (now (bytes .entry)) (now («out_knots» .entry)) (now («out_xs» .entry)) (now («out_ys» .entry)) r
+        (now («out_knots» .exit)) (now («out_xs» .exit)) (now («out_ys» .exit)) ⌝ }
+{
+    match layout::whole_record(bytes) {
+        Layout::Sound { knots, xs, ys } => getting::read_sound(
+            bytes,
+            knots,
+            xs,
+            ys,
+            out_knots,
+            out_xs,
+            out_ys,
+        ),
+        Layout::Broken(_) => ReadAnswer::Refused(refusal::BYTES),
+    }
 }

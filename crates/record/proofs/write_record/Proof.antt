@@ -8,7 +8,7 @@ use Rattle.grid.specs.Check.{checkNumber}
 use Rattle.grid.specs.Sizes.{Sizes}
 use Rattle.grid.proofs.SizeLaws.{sizes-of-passes}
 use Rattle.format.proofs.SizeLaws.{record-size}
-use Rattle.record.proofs.WriteLaws.{refused-by, write-checked, write-short, written}
+use Rattle.record.proofs.WriteLaws.{refused-by, write-stopped, write-short, written}
 use native.Mathlib.Omega.{arith}
 use borrow.Author.Needs.{needs}
 use Rattle.record.proofs.write_record.Statement.{statement}
@@ -31,10 +31,7 @@ check-requires c κs = search needs
 returns : tie.Need-returns
 returns c =
     let a = c .before .before .before .before .args in
-    let e = c .before .check .ensures in
-    let refused : checkNumber (a .degree) (a .knots .now) (a .xs .now) (a .ys .now) ≡ 0 → ⊥ = λ z. c .if1 .taken (e ∙ z) in
-    refused-by (a .degree) (a .knots .now) (a .xs .now) (a .ys .now) (a .out .now) (c .before .check .result)
-    (write-checked (a .degree) (a .knots .now) (a .xs .now) (a .ys .now) (a .out .now) refused ∙ sym e) (c .if1 .taken)
+    write-stopped (a .degree) (a .knots .now) (a .xs .now) (a .ys .now) (a .out .now) (c .before .check .result) (c .before .check .ensures) (c .if1 .taken)
 
 mul-size : tie.Need-mul-size
 mul-size c = search needs
