@@ -1,6 +1,6 @@
 -- The part that is handed back at an accepted parameter, whichever axis is asked.
 use mathlib.Core.List.{List}
-use mathlib.Core.Path.{_≡_, sym, ap, _∙_}
+use mathlib.Core.Path.{_≡_}
 use Prim.Native.Nat.{ℕ, _-_}
 use borrow.Author.Tests.{eq-eqb}
 use lib.IntN.{ℤ}

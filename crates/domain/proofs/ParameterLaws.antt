@@ -13,10 +13,10 @@ use Rattle.refusal.specs.Judging.{unless}
 use Rattle.refusal.specs.Numbers.{accepted, parameterRefused}
 use Rattle.refusal.proofs.JudgingLaws.{unless-accepted}
 use Rattle.grid.specs.Check.{checkNumber, Passes}
-use Rattle.grid.proofs.CheckLaws.{checkedThen-split, passes-tests}
-use Rattle.grid.proofs.CountLaws.{degree-of-test, points-of-test, knots-of-test}
-use Rattle.span.specs.Span.{spanOf, inDomain}
-use Rattle.span.proofs.SpanLaws.{spanOf-within, inDomain-says}
+use Rattle.grid.proofs.CheckLaws.{checkedThen-split}
+use Rattle.checked.proofs.CheckedLaws.{checked-of-passes}
+use Rattle.span.specs.Span.{IsSpan, spanOf, inDomain}
+use Rattle.span.proofs.SpanLaws.{spanOf-within, spanOf-is, inDomain-says}
 use Rattle.domain.specs.Parameter.{parameterNumber}
 
 module _ (m : ℕ) (ts : List ℕ) (xs ys : List ℤ) (t : ℕ) where
@@ -38,27 +38,6 @@ module _ (m : ℕ) (ts : List ℕ) (xs ys : List ℤ) (t : ℕ) where
       by (yes passed) = (passed, unless-accepted (inDomain ts m (length xs - 1) t 1) 7 0 (sym (curve-passed passed) ∙ h) .0)
       by (no refused) = absurd (refused (curve-refused refused ∙ h))
 
--- how many points and knots a curve that passes has
-pub record Counted (m : ℕ) (ts : List ℕ) (xs ys : List ℤ) : Type 0 where
-  pub least : 1 ≤ m
-  pub most : m ≤ 3
-  pub alike : length ys ≡ length xs
-  pub enough : m < length xs
-  pub knots : length ts ≡ length xs + m + 1
-
-pub passes-counted : (m : ℕ) (ts : List ℕ) (xs ys : List ℤ) → Passes m ts xs ys → Counted m ts xs ys
-passes-counted m ts xs ys h =
-    let tests = passes-tests m ts xs ys h in
-    let degree = degree-of-test m (tests .degree) in
-    let points = points-of-test m xs ys (tests .points) in
-    record {
-      least = degree .0;
-      most = degree .1;
-      alike = sym (points .0);
-      enough = omega (arith, points .1);
-      knots = knots-of-test m ts xs (tests .knots);
-    }
-
 -- where the span of an accepted parameter stands in its lists
 pub record Within (m : ℕ) (ts : List ℕ) (xs ys : List ℤ) (t i : ℕ) : Type 0 where
   pub least : 1 ≤ m
@@ -73,15 +52,28 @@ pub accepted-within :
     (m : ℕ) (ts : List ℕ) (xs ys : List ℤ) (t i : ℕ) → parameterNumber m ts xs ys t ≡ 0 → i ≡ spanOf ts m (length xs - 1) t 1 → Within m ts xs ys t i
 accepted-within m ts xs ys t i h e =
     let passed = parameter-accepted m ts xs ys t h in
-    let counted = passes-counted m ts xs ys (passed .0) in
+    let curve = checked-of-passes m ts xs ys (passed .0) in
+    let enough : m + 1 ≤ length xs = curve .enough in
+    let knots : length ts ≡ length xs + m + 1 = curve .knots in
     let span : (m ≤ i) × (i ≤ length xs - 1) = rw e (spanOf-within ts m (length xs - 1) t 1 (omega arith)) in
     let last : length xs - 1 + 1 ≡ length xs = omega arith in
     record {
-      least = counted .least;
-      most = counted .most;
+      least = curve .degreeLow;
+      most = curve .degreeHigh;
       first = span .0;
       point = omega arith;
-      alike = counted .alike;
+      alike = sym (curve .same);
       knot = omega arith;
       top = simp (mul-one, last) at (inDomain-says ts m (length xs - 1) t 1 (passed .1) .1);
     }
+
+-- the index that the search finds for an accepted parameter is its span: the largest that the rule allows
+pub accepted-span :
+    (m : ℕ) (ts : List ℕ) (xs ys : List ℤ) (t : ℕ) → parameterNumber m ts xs ys t ≡ 0
+    → IsSpan ts m (length xs - 1) t 1 (spanOf ts m (length xs - 1) t 1)
+accepted-span m ts xs ys t h =
+    let passed = parameter-accepted m ts xs ys t h in
+    let curve = checked-of-passes m ts xs ys (passed .0) in
+    let enough : m + 1 ≤ length xs = curve .enough in
+    let last : length xs - 1 + 1 ≡ length xs = omega arith in
+    spanOf-is ts m (length xs - 1) t 1 (omega arith) (inDomain-says ts m (length xs - 1) t 1 (passed .1) .0) (rw last (curve .domain))

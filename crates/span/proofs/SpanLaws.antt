@@ -1,7 +1,7 @@
 -- The search downward finds the span (heading "The point at a parameter"): `spanOf-is`; a parameter has one span: `span-unique`;
 -- the span holds the parameter, at the right end of the domain too: `span-holds`. Only t_m < t_{n+1} is used, not clamped ends.
 use mathlib.Core.Bool.{Bool, true, false, cond, _||_, and-false, and-eq-true-iff, true≢false}
-use mathlib.Core.Path.{_≡_, refl, sym, subst, ap, _∙_}
+use mathlib.Core.Path.{_≡_, refl, sym, ap, _∙_}
 use mathlib.Core.List.{List}
 use Prim.Native.Nat.{ℕ, zero, suc, _+_, _-_, _*_, _≤_, _<_, zero-le}
 use native.Mathlib.Nat.{lt-of-mul-lt-mul-right, mul-le-mul-right, le-refl, le-antisymm, le-trans, add-zero}

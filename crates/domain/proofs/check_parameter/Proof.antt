@@ -1,9 +1,10 @@
 -- `domain::check_parameter` meets its contract: the check's number comes first, then the test of the domain.
-use mathlib.Core.Path.{_≡_, sym, _∙_}
+use mathlib.Core.Path.{sym, _∙_}
 use native.Mathlib.Omega.{arith}
 use denote.Ref.{now}
 use Rattle.refusal.proofs.JudgingLaws.{test-failed, test-passed}
-use Rattle.domain.proofs.ParameterLaws.{curve-refused, curve-passed, passes-counted}
+use Rattle.checked.proofs.CheckedLaws.{checked-of-passes}
+use Rattle.domain.proofs.ParameterLaws.{curve-refused, curve-passed}
 use borrow.Author.Needs.{needs}
 use Rattle.domain.proofs.check_parameter.Statement.{statement}
 use Rattle.domain.proofs.check_parameter.Tie as tie
@@ -21,7 +22,7 @@ sub-in-domain : tie.Need-sub-in-domain
 sub-in-domain c =
     let x = c .before .before .before .args in
     let passes = sym (c .before .check .ensures) ∙ c .if1 .left in
-    omega (arith, passes-counted (x .degree) (now (x .knots)) (now (x .xs)) (now (x .ys)) passes)
+    omega (arith, checked-of-passes (x .degree) (now (x .knots)) (now (x .xs)) (now (x .ys)) passes .enough)
 
 in-domain-requires : tie.Need-in-domain-requires
 in-domain-requires c κs = search needs

@@ -1,5 +1,5 @@
 -- `limit_runs::ramp` meets its contract: the loop keeps the list's length.
-use mathlib.Core.Path.{_≡_, refl}
+use mathlib.Core.Path.{_≡_}
 use Prim.Native.Nat.{_≤_, _-_}
 use native.Mathlib.Omega.{arith}
 use borrow.Author.Needs.{needs}

@@ -1,5 +1,5 @@
 -- `point_lines::coordinate` meets its contract: what equals itself is no NaN, and so it has bits.
-use mathlib.Core.Bool.{true, false, not, true≢false}
+use mathlib.Core.Bool.{false, not, true≢false}
 use mathlib.Core.Path.{_≡_}
 use lib.Dec.{T}
 use lib.Ieee.{Float, nan, inf, fin, ne, eq, isNan}

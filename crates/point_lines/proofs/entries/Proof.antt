@@ -1,5 +1,4 @@
 -- `point_lines::entries` meets its contract: the loop goes through the part and ends.
-use mathlib.Core.Path.{_≡_}
 use Prim.Native.Nat.{_≤_, _-_}
 use native.Mathlib.Omega.{arith}
 use borrow.Author.Needs.{needs}

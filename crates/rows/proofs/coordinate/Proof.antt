@@ -1,6 +1,5 @@
 -- `rows::coordinate` meets its contract: each row follows from the row before, and row m has one entry.
 use native.Mathlib.Omega.{arith}
-use Prim.Native.Nat.{_≤_}
 use mathlib.Core.Path.{_≡_}
 use denote.Ref.{now}
 use Rattle.rows.proofs.RowLaws.{last-entry}

@@ -1,13 +1,12 @@
 -- `rows::next_row` meets its contract: the places from r + 1 up to `a` hold their cells of row r.
-use mathlib.Core.Path.{_≡_, refl, ap, sym, _∙_}
-use Prim.Native.Nat.{ℕ, suc, _+_, _-_, _≤_, _<_}
-use native.Mathlib.Numerals.{add-one}
+use mathlib.Core.Path.{_≡_, refl}
+use Prim.Native.Nat.{ℕ, _+_, _-_, _≤_, _<_}
 use native.Mathlib.Omega.{arith}
 use borrow.Author.Needs.{needs}
 use denote.Ref.{now}
 use lib.Ieee.{nan}
 use lib.ListN.{length, getD, length-set}
-use Rattle.triangle.specs.FloatTriangle.{cellAt, entryOf}
+use Rattle.triangle.specs.FloatTriangle.{cellAt}
 use Rattle.rows.proofs.RowLaws.{filled-more, next-holds}
 use Rattle.rows.proofs.next_row.Statement.{statement}
 use Rattle.rows.proofs.next_row.Tie as tie

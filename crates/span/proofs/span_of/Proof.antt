@@ -4,7 +4,7 @@ use mathlib.Core.Bool.{true, false, or-true}
 use denote.Ref.{now}
 use native.Mathlib.Omega.{arith}
 use borrow.Author.Needs.{needs}
-use borrow.Author.Tests.{le-leb, lt-leb}
+use borrow.Author.Tests.{le-leb}
 use Rattle.span.specs.Span.{startsAt, spanOf}
 use Rattle.span.proofs.SpanLaws.{spanOf-here, spanOf-lower}
 use Rattle.span.proofs.span_of.Statement.{statement}
