@@ -1,2 +1,3 @@
 -- Laws of what a call at a parameter is refused with.
 pub mod ParameterLaws
+pub mod OutsideLaws

@@ -1,2 +1,3 @@
--- Laws of the span rule.
+-- Laws of the span rule, and spans worked by hand.
 pub mod SpanLaws
+mod Controls
