@@ -5,3 +5,4 @@ pub mod FractionLaws
 pub mod Rational
 pub mod ClassLaws
 pub mod Controls
+pub mod WholeLaws

@@ -10,7 +10,8 @@ use Rattle.span.proofs.SpanLaws.{span-unique, span-holds, inDomain-says}
 use Rattle.exact.proofs.DomainLaws.{domain-span}
 use Rattle.point_at_exact.proofs.PointNearLaws.{point-near-exact}
 use Rattle.spans_met_exact.proofs.CrossingLaws.{every-crossing-reported}
-use Rattle.promises.specs.Promises.{CheckGivesLowestRow, EveryParameterHasItsSpan, ComputedPointNearExact, CrossingsReported}
+use Rattle.knots_exact.proofs.InsertionLaws.{insert-keeps-curve}
+use Rattle.promises.specs.Promises.{CheckGivesLowestRow, EveryParameterHasItsSpan, ComputedPointNearExact, CrossingsReported, InsertionKeepsCurve}
 
 pub check-gives-lowest-row : CheckGivesLowestRow
 check-gives-lowest-row m ts xs ys = (check-answers m ts xs ys, check-answers-none m ts xs ys)
@@ -30,3 +31,6 @@ computed-point-near-exact = point-near-exact
 
 pub crossings-reported : CrossingsReported
 crossings-reported = every-crossing-reported
+
+pub insertion-keeps-curve : InsertionKeepsCurve
+insertion-keeps-curve = insert-keeps-curve

@@ -12,6 +12,7 @@ use Rattle.checked.specs.Sentences.{RowApplies}
 use Rattle.span.specs.Span.{IsSpan, spanOf, inDomain}
 use Rattle.point_at_exact.specs.PointNear.{PointNearExact}
 use Rattle.spans_met_exact.specs.Crossing.{EveryCrossingReported}
+use Rattle.knots_exact.specs.SameCurve.{InsertKeepsCurve}
 
 -- "Numbers of refusal": the check answers n exactly when row n applies and no lower row does, and 0 exactly when no row does
 abbrev pub CheckGivesLowestRow : Type 0
@@ -36,3 +37,7 @@ ComputedPointNearExact = PointNearExact
 -- parameter is on the list
 abbrev pub CrossingsReported : Type 0
 CrossingsReported = EveryCrossingReported
+
+-- "Inserting and removing a knot": inserting a knot changes neither the domain nor the exact point at any fraction of it
+abbrev pub InsertionKeepsCurve : Type 0
+InsertionKeepsCurve = InsertKeepsCurve

@@ -11,7 +11,8 @@ use Rattle.algebra.proofs.Solver.{linear-combination, fact}
 use Rattle.algebra.proofs.FieldLaws.{mul-cancel-right}
 use Rattle.fractions.specs.Fraction.{Fraction, over, whole}
 use Rattle.fractions.proofs.Rational.{ℚ, class, plus, times, inverse, rational, rationalOperations}
-use Rattle.rounding.proofs.WholeClass.{wholeClass, whole-sum, whole-product, whole-difference, over-times, whole-apart}
+use Rattle.fractions.proofs.WholeLaws.{whole-difference}
+use Rattle.rounding.proofs.WholeClass.{wholeClass, whole-sum, whole-product, over-times, whole-apart}
 use Rattle.rounding.proofs.Ratio.{Ratio, wholeRatio, cellRatio}
 
 -- (more - less) / under

@@ -3,15 +3,14 @@ use mathlib.Core.Path.{_≡_, refl, sym, ap, _∙_}
 use mathlib.Core.List.{[], _∷_}
 use Prim.Native.Nat.{ℕ, zero, suc, _+_, _-_, _*_, _<_}
 use native.Mathlib.Omega.{arith}
-use lib.IntN.{ℤ, pos, _-ℤ_, _*ℤ_}
-use Rattle.algebra.specs.Operations.{sub}
-use Rattle.algebra.proofs.Expressions.{var, lit, _⊕_, _⊗_, _⊖_, minus}
+use lib.IntN.{ℤ, pos, _*ℤ_}
+use Rattle.algebra.proofs.Expressions.{var, lit, _⊗_}
 use Rattle.algebra.proofs.Solver.{ring}
 use Rattle.algebra.proofs.IntegerRing.{integerRing}
 use Rattle.algebra.proofs.OrderLaws.{apart-of-positive}
-use Rattle.fractions.specs.Fraction.{over, whole, wholeN, sum, product, negation, fractionOperations}
+use Rattle.fractions.specs.Fraction.{over, whole, wholeN, sum, product}
 use Rattle.fractions.proofs.Rational.{ℚ, class, plus, times, rational, rationalOperations, class-of-equals}
-use Rattle.fractions.proofs.ClassLaws.{class-sum, class-product, class-sub, wholeN-below}
+use Rattle.fractions.proofs.ClassLaws.{class-sum, class-product, wholeN-below}
 
 -- the natural number n as a rational number
 abbrev pub wholeClass : ℕ → ℚ
@@ -24,13 +23,6 @@ whole-sum m n = class-of-equals {a = wholeN (m + n)} {b = sum (wholeN m) (wholeN
 pub whole-product : (m n : ℕ) → wholeClass (m * n) ≡ times (wholeClass m) (wholeClass n)
 unfolding product
 whole-product m n = class-of-equals {a = wholeN (m * n)} {b = product (wholeN m) (wholeN n)} refl ∙ class-product (wholeN m) (wholeN n)
-
-pub whole-difference : (x y : ℤ) → class (whole (x -ℤ y)) ≡ sub rationalOperations (class (whole x)) (class (whole y))
-unfolding sum negation
-whole-difference x y =
-    class-of-equals {a = whole (x -ℤ y)} {b = sub fractionOperations (whole x) (whole y)}
-    (ring integerRing (x ∷ y ∷ []) ((var 0 ⊖ var 1) ⊗ lit 1) ((var 0 ⊗ lit 1 ⊕ minus (var 1) ⊗ lit 1) ⊗ lit 1) refl)
-    ∙ class-sub (whole x) (whole y)
 
 lower-times-one : (k : ℕ) → 0 < k → suc (suc (k - 1) * 1 - 1) ≡ k
 lower-times-one k P = omega arith

@@ -1,0 +1,5 @@
+-- Why inserting a knot keeps the exact curve.
+pub mod SpanRuleLaws
+pub mod InsertedLaws
+pub mod InsertionLaws
+pub mod SameLaws

@@ -1,0 +1,2 @@
+-- Two curves that are the same exact curve.
+pub mod SameCurve

@@ -1,0 +1,32 @@
+-- Two curves of one degree with the same domain and, at every fraction of it, the same exact point (heading "Inserting and removing a knot").
+use mathlib.Core.Bool.{true}
+use mathlib.Core.List.{List}
+use mathlib.Core.Path.{_≡_}
+use Prim.Native.Nat.{ℕ, _-_, _<_}
+use lib.IntN.{ℤ}
+use lib.ListN.{length, getD}
+use Rattle.fractions.specs.Order.{Equals}
+use Rattle.exact.specs.ExactCurve.{exactAt}
+use Rattle.span.specs.Span.{inDomain}
+use Rattle.refusal.specs.Numbers.{accepted}
+use Rattle.insertion.specs.Insertion.{insertedKnots, insertedPoints}
+use Rattle.insertion.specs.Judged.{insertionNumber}
+
+-- knots ts and coordinates ps on one axis against knots us and coordinates qs: the domain is the same, and so is the exact coordinate
+-- at every fraction p/q of the domain
+pub record SameOnAxis (m : ℕ) (ts : List ℕ) (ps : List ℤ) (us : List ℕ) (qs : List ℤ) : Type 0 where
+  pub start : getD us m 0 ≡ getD ts m 0
+  pub stop : getD us (length qs) 0 ≡ getD ts (length ps) 0
+  pub point : (p q : ℕ) → 0 < q → inDomain ts m (length ps - 1) p q ≡ true → Equals (exactAt m us qs p q) (exactAt m ts ps p q)
+
+-- the same on both axes
+pub record SameCurve (m : ℕ) (ts : List ℕ) (xs ys : List ℤ) (us : List ℕ) (xs' ys' : List ℤ) : Type 0 where
+  pub x : SameOnAxis m ts xs us xs'
+  pub y : SameOnAxis m ts ys us ys'
+
+-- whenever inserting v is not refused, the curve that the call's contract names is the old one
+abbrev pub InsertKeepsCurve : Type 0
+InsertKeepsCurve =
+    (m : ℕ) (ts : List ℕ) (xs ys : List ℤ) (v roomKnots roomXs roomYs : ℕ)
+    → insertionNumber m ts xs ys v roomKnots roomXs roomYs ≡ accepted
+    → SameCurve m ts xs ys (insertedKnots ts v) (insertedPoints m ts xs v) (insertedPoints m ts ys v)
