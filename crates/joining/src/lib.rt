@@ -50,10 +50,12 @@ fn join_refusal(
     if !counts::all_in_range(px, py, tx, ty) {
         return refusal::RANGE;
     }
-    if !spline_pieces::all_whole(params, tx, ty) {
+    let whole = spline_pieces::all_whole(params, tx, ty);
+    let on_grid = spline_pieces::all_pieces_on_grid(params, px, py, tx, ty);
+    if !whole {
         return refusal::NOT_WHOLE;
     }
-    if !spline_pieces::all_pieces_on_grid(params, px, py, tx, ty) {
+    if !on_grid {
         return refusal::JOINED_RANGE;
     }
     if !room_ok(params.len(), knot_places, x_places, y_places) {

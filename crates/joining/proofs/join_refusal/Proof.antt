@@ -40,37 +40,29 @@ all-whole-requires c κs =
     let y = y-axis (a .params .now) (a .px .now) (a .py .now) (a .tx .now) (a .ty .now) (passed-17 (c .before .before)) in
     (x .rising, (x .tangents, y .tangents))
 
-returns-3 : tie.Need-returns-3
-unfolding joinRefusal
-returns-3 c =
-    let a = c .before .before .before .before .before .before .before .args in
-    rw (passed-17 (c .before .before .before .before), passed-7 (c .before .before), test-failed (c .if3 .taken) (c .before .all-whole .ensures (a .px .now) (a .py .now)))
-
-passed-11 : (c : tie.Else3) → let a = c .before .before .before .before .before .before .before .args in
-    (allWhole (pieces (a .params .now) (a .px .now) (a .tx .now)) && allWhole (pieces (a .params .now) (a .py .now) (a .ty .now))) ≡ true
-passed-11 c =
-    let a = c .before .before .before .before .before .before .before .args in
-    test-passed (c .if3 .left) (c .before .all-whole .ensures (a .px .now) (a .py .now))
+judged-11 : (c : tie.After-all-whole) → let a = c .before .before .before .before .before .before .args in c .all-whole .result ≡ (allWhole (pieces (a .params .now) (a .px .now) (a .tx .now)) && allWhole (pieces (a .params .now) (a .py .now) (a .ty .now)))
+judged-11 c = let a = c .before .before .before .before .before .before .args in c .all-whole .ensures (a .px .now) (a .py .now)
 
 all-pieces-on-grid-requires : tie.Need-all-pieces-on-grid-requires
 all-pieces-on-grid-requires c κs =
-    let a = c .before .before .before .before .before .before .before .args in
-    let e = passed-17 (c .before .before .before .before) in
-    (x-axis (a .params .now) (a .px .now) (a .py .now) (a .tx .now) (a .ty .now) e, (y-axis (a .params .now) (a .px .now) (a .py .now) (a .tx .now) (a .ty .now) e, points-on-grid (a .params .now) (a .px .now) (a .py .now) (a .tx .now) (a .ty .now) (passed-7 (c .before .before))))
+    let a = c .before .before .before .before .before .before .args in
+    let e = passed-17 (c .before .before .before) in
+    (x-axis (a .params .now) (a .px .now) (a .py .now) (a .tx .now) (a .ty .now) e, (y-axis (a .params .now) (a .px .now) (a .py .now) (a .tx .now) (a .ty .now) e, points-on-grid (a .params .now) (a .px .now) (a .py .now) (a .tx .now) (a .ty .now) (passed-7 (c .before))))
+
+returns-3 : tie.Need-returns-3
+unfolding joinRefusal
+returns-3 c = rw (passed-17 (c .before .before .before .before .before), passed-7 (c .before .before .before), test-failed (c .if3 .taken) (judged-11 (c .before .before)))
+
+passed-11 : (c : tie.Else3) → let a = c .before .before .before .before .before .before .before .before .args in (allWhole (pieces (a .params .now) (a .px .now) (a .tx .now)) && allWhole (pieces (a .params .now) (a .py .now) (a .ty .now))) ≡ true
+passed-11 c = test-passed (c .if3 .left) (judged-11 (c .before .before))
 
 returns-4 : tie.Need-returns-4
 unfolding joinRefusal
 returns-4 c =
-    rw (
-      passed-17 (c .before .before .before .before .before .before),
-      passed-7 (c .before .before .before .before),
-      passed-11 (c .before .before),
-      test-failed (c .if4 .taken) (c .before .all-pieces-on-grid .ensures),
-    )
+    rw (passed-17 (c .before .before .before .before .before .before), passed-7 (c .before .before .before .before), passed-11 (c .before), test-failed (c .if4 .taken) (c .before .before .all-pieces-on-grid .ensures))
 
-passed-18 : (c : tie.Else4) → let a = c .before .before .before .before .before .before .before .before .before .args in
-    (allPiecesOnGrid (pieces (a .params .now) (a .px .now) (a .tx .now)) && allPiecesOnGrid (pieces (a .params .now) (a .py .now) (a .ty .now))) ≡ true
-passed-18 c = test-passed (c .if4 .left) (c .before .all-pieces-on-grid .ensures)
+passed-18 : (c : tie.Else4) → let a = c .before .before .before .before .before .before .before .before .before .args in (allPiecesOnGrid (pieces (a .params .now) (a .px .now) (a .tx .now)) && allPiecesOnGrid (pieces (a .params .now) (a .py .now) (a .ty .now))) ≡ true
+passed-18 c = test-passed (c .if4 .left) (c .before .before .all-pieces-on-grid .ensures)
 
 room-ok-requires : tie.Need-room-ok-requires
 room-ok-requires c κs =
@@ -89,24 +81,12 @@ room c =
 returns-5 : tie.Need-returns-5
 unfolding joinRefusal
 returns-5 c =
-    rw (
-      passed-17 (c .before .before .before .before .before .before .before .before),
-      passed-7 (c .before .before .before .before .before .before),
-      passed-11 (c .before .before .before .before),
-      passed-18 (c .before .before),
-      test-failed (c .if5 .taken) (room (c .before)),
-    )
+    rw (passed-17 (c .before .before .before .before .before .before .before .before), passed-7 (c .before .before .before .before .before .before), passed-11 (c .before .before .before), passed-18 (c .before .before), test-failed (c .if5 .taken) (room (c .before)))
 
 returns-6 : tie.Need-returns-6
 unfolding joinRefusal
 returns-6 c =
-    rw (
-      passed-17 (c .before .before .before .before .before .before .before .before),
-      passed-7 (c .before .before .before .before .before .before),
-      passed-11 (c .before .before .before .before),
-      passed-18 (c .before .before),
-      test-passed (c .if5 .left) (room (c .before)),
-    )
+    rw (passed-17 (c .before .before .before .before .before .before .before .before), passed-7 (c .before .before .before .before .before .before), passed-11 (c .before .before .before), passed-18 (c .before .before), test-passed (c .if5 .left) (room (c .before)))
 
 pub join-refusal-spec : {M : Type 1} → statement M
 join-refusal-spec =
@@ -117,8 +97,8 @@ join-refusal-spec =
     all-in-range-requires
     returns-2
     all-whole-requires
-    returns-3
     all-pieces-on-grid-requires
+    returns-3
     returns-4
     room-ok-requires
     returns-5

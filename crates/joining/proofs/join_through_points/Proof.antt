@@ -51,10 +51,10 @@ write-knots-requires : tie.Need-write-knots-requires
 write-knots-requires c κs = (standing-x (c .before) .rising, room (c .before) .0)
 
 write-points-requires : tie.Need-write-points-requires
-write-points-requires c κs = let e = c .before .before .before .before .before in (standing-x e, (facts e .x-on-grid, room e .1))
+write-points-requires c κs = let e = c .before .before .before .before .before in (search (standing-x e, standing-y e), (search (facts e .x-on-grid, facts e .y-on-grid), room e .1))
 
 write-points-requires-2 : tie.Need-write-points-requires-2
-write-points-requires-2 c κs = let e = c .before .before .before .before .before .before .before .before in (standing-y e, (facts e .y-on-grid, room e .2))
+write-points-requires-2 c κs = let e = c .before .before .before .before .before .before .before .before in (search (standing-x e, standing-y e), (search (facts e .x-on-grid, facts e .y-on-grid), room e .2))
 
 mul-t11 : tie.Need-mul-t11
 mul-t11 c = search needs

@@ -13,8 +13,8 @@ use Rattle.spline_pieces.proofs.GridLaws.{inner-on-grid}
 use Rattle.spline_pieces.proofs.PieceLaws.{piecesOn, grid-each}
 use Rattle.joined_curve.proofs.CurveLaws.{threes}
 use Rattle.joined_curve.proofs.WritingLaws.{points-turn, points-done}
-use Rattle.joined_curve.proofs.write_points.Statement.{statement}
-use Rattle.joined_curve.proofs.write_points.Tie as tie
+use Rattle.joined_curve.proofs.points.write_points.Statement.{statement}
+use Rattle.joined_curve.proofs.points.write_points.Tie as tie
 
 abbrev Inv-loop : tie.InvT-loop
 Inv-loop params ps ts out₀ at₀ i₀ out at i =
@@ -40,15 +40,19 @@ loop-holds c =
 add-loop : tie.Need-add-loop Inv-loop μ-loop
 add-loop c = omega arith
 
+-- piece i is there
+inside : (c : tie.In-loop Inv-loop μ-loop) → c .before .loop .i + 1 < length (c .before .before .before .before .args .params .now)
+inside c = omega (arith, c .loop-test .taken, c .before .before .before .before .pre .0 .rising .least)
+
 b1-at-requires : tie.Need-b1-at-requires Inv-loop μ-loop
-b1-at-requires c κs = (c .before .before .before .before .pre .0, c .loop-test .taken)
+b1-at-requires c κs = (c .before .before .before .before .pre .0, inside c)
 
 narrowed-requires : tie.Need-narrowed-requires Inv-loop μ-loop
 narrowed-requires c κs =
     let a = c .before .before .before .before .before .args in
     let l = c .before .before .loop in
     rw (toZ-ofZ w64 (c .b1-at .result) (sfits-of (c .b1-at .ok)), c .b1-at .ensures)
-    (inner-on-grid (pieceAt (a .params .now) (a .ps .now) (a .ts .now) (l .i)) (grid-each (a .params .now) (a .ps .now) (a .ts .now) (c .before .before .before .before .before .pre .1 .0) (l .i) (c .before .loop-test .taken)) .0)
+    (inner-on-grid (pieceAt (a .params .now) (a .ps .now) (a .ts .now) (l .i)) (grid-each (a .params .now) (a .ps .now) (a .ts .now) (c .before .before .before .before .before .pre .1 .0) (l .i) (inside (c .before))) .0)
 
 mul-out : tie.Need-mul-out Inv-loop μ-loop
 mul-out c = omega arith
@@ -57,41 +61,41 @@ slice-set-from-out-2 : tie.Need-slice-set-from-out-2 Inv-loop μ-loop
 slice-set-from-out-2 c = omega arith
 
 b2-at-requires : tie.Need-b2-at-requires Inv-loop μ-loop
-b2-at-requires c κs = (c .before .before .before .before .before .before .pre .0, c .before .before .loop-test .taken)
+b2-at-requires c κs = (c .before .before .before .before .before .before .pre .0, inside (c .before .before))
 
 narrowed-requires-2 : tie.Need-narrowed-requires-2 Inv-loop μ-loop
 narrowed-requires-2 c κs =
     let a = c .before .before .before .before .before .before .before .args in
     let l = c .before .before .before .before .loop in
     rw (toZ-ofZ w64 (c .b2-at .result) (sfits-of (c .b2-at .ok)), c .b2-at .ensures)
-    (inner-on-grid (pieceAt (a .params .now) (a .ps .now) (a .ts .now) (l .i)) (grid-each (a .params .now) (a .ps .now) (a .ts .now) (c .before .before .before .before .before .before .before .pre .1 .0) (l .i) (c .before .before .before .loop-test .taken)) .1)
+    (inner-on-grid (pieceAt (a .params .now) (a .ps .now) (a .ts .now) (l .i)) (grid-each (a .params .now) (a .ps .now) (a .ts .now) (c .before .before .before .before .before .before .before .pre .1 .0) (l .i) (inside (c .before .before .before))) .1)
 
-add-out : tie.Need-add-out Inv-loop μ-loop
-add-out c = omega arith
+add-b3 : tie.Need-add-b3 Inv-loop μ-loop
+add-b3 c = omega arith
 
-mul-out-2 : tie.Need-mul-out-2 Inv-loop μ-loop
-mul-out-2 c = omega arith
+mul-b3 : tie.Need-mul-b3 Inv-loop μ-loop
+mul-b3 c = omega arith
 
-slice-set-from-out-3 : tie.Need-slice-set-from-out-3 Inv-loop μ-loop
-slice-set-from-out-3 c = simp length-set (omega arith)
+slice-set-from-b3 : tie.Need-slice-set-from-b3 Inv-loop μ-loop
+slice-set-from-b3 c = simp length-set (omega arith)
 
 add-i : tie.Need-add-i Inv-loop μ-loop
 add-i c = omega arith
 
-mul-out-3 : tie.Need-mul-out-3 Inv-loop μ-loop
-mul-out-3 c = omega arith
+mul-b3-2 : tie.Need-mul-b3-2 Inv-loop μ-loop
+mul-b3-2 c = omega arith
 
-shared-slice-copy-out-out-2 : tie.Need-shared-slice-copy-out-out-2 Inv-loop μ-loop
-shared-slice-copy-out-out-2 c = rw (c .before .before .before .before .before .before .before .before .pre .0 .points) (c .before .before .before .before .loop-test .taken)
+shared-slice-copy-out-b3 : tie.Need-shared-slice-copy-out-b3 Inv-loop μ-loop
+shared-slice-copy-out-b3 c = rw (c .before .before .before .before .before .before .before .before .pre .0 .points) (inside (c .before .before .before .before))
 
-add-t10 : tie.Need-add-t10 Inv-loop μ-loop
-add-t10 c = omega arith
+add-b3-2 : tie.Need-add-b3-2 Inv-loop μ-loop
+add-b3-2 c = omega arith
 
-mul-t18 : tie.Need-mul-t18 Inv-loop μ-loop
-mul-t18 c = omega arith
+mul-b3-3 : tie.Need-mul-b3-3 Inv-loop μ-loop
+mul-b3-3 c = omega arith
 
-slice-set-from-out-4 : tie.Need-slice-set-from-out-4 Inv-loop μ-loop
-slice-set-from-out-4 c = simp length-set (omega arith)
+slice-set-from-b3-2 : tie.Need-slice-set-from-b3-2 Inv-loop μ-loop
+slice-set-from-b3-2 c = simp length-set (omega arith)
 
 add-at : tie.Need-add-at Inv-loop μ-loop
 add-at c = omega arith
@@ -107,11 +111,11 @@ loop-again c =
     let first = c .before .before .before .narrowed in
     let b2 = c .before .before .b2-at in
     let second = c .before .narrowed2 in
-    let turn = points-turn (a .params .now) (a .ps .now) (a .ts .now) (l .i) (l .out) (l .at) _ _ _ (c .before .before .before .before .before .loop-test .taken)
+    let turn = points-turn (a .params .now) (a .ps .now) (a .ts .now) (l .i) (l .out) (l .at) _ _ _ (inside (c .before .before .before .before .before))
     (toZ-ofZ w32 (first .result) (sfits-of (first .ok)) ∙ first .ensures ∙ toZ-ofZ w64 (b1 .result) (sfits-of (b1 .ok)) ∙ b1 .ensures)
     (toZ-ofZ w32 (second .result) (sfits-of (second .ok)) ∙ second .ensures ∙ toZ-ofZ w64 (b2 .result) (sfits-of (b2 .ok)) ∙ b2 .ensures)
-    (toZ-ofZ w32 (getD (a .ps .now) (l .i + 1) (pos 0)) (sfits-of (c .out2 .given))) in
-    (c .before .before .before .before .before .loop-test .taken, omega arith, simp length-set (simp length-set at (l .inv .2)), simp length-set (l .inv .3), turn ∙ l .inv .4)
+    (toZ-ofZ w32 (getD (a .ps .now) (l .i + 1) (pos 0)) (sfits-of (c .b3 .given))) in
+    (inside (c .before .before .before .before .before), omega arith, simp length-set (simp length-set at (l .inv .2)), simp length-set (l .inv .3), turn ∙ l .inv .4)
 
 same-length : tie.Need-same-length Inv-loop μ-loop
 same-length c = c .before .loop .inv .2 ∙ simp length-set
@@ -140,15 +144,15 @@ write-points-spec =
     slice-set-from-out-2
     b2-at-requires
     narrowed-requires-2
-    add-out
-    mul-out-2
-    slice-set-from-out-3
+    add-b3
+    mul-b3
+    slice-set-from-b3
     add-i
-    mul-out-3
-    shared-slice-copy-out-out-2
-    add-t10
-    mul-t18
-    slice-set-from-out-4
+    mul-b3-2
+    shared-slice-copy-out-b3
+    add-b3-2
+    mul-b3-3
+    slice-set-from-b3-2
     add-at
     loop-less
     loop-again

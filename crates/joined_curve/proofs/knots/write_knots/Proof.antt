@@ -8,8 +8,8 @@ use lib.Seq.{sets}
 use borrow.Author.Needs.{needs}
 use Rattle.joined_curve.proofs.CurveLaws.{knotsLeft}
 use Rattle.joined_curve.proofs.WritingLaws.{knots-turn, knots-done}
-use Rattle.joined_curve.proofs.write_knots.Statement.{statement}
-use Rattle.joined_curve.proofs.write_knots.Tie as tie
+use Rattle.joined_curve.proofs.knots.write_knots.Statement.{statement}
+use Rattle.joined_curve.proofs.knots.write_knots.Tie as tie
 
 abbrev Inv-loop : tie.InvT-loop
 Inv-loop params out₀ first at₀ i₀ out at i =
@@ -43,6 +43,10 @@ loop-holds c =
 
 add-loop : tie.Need-add-loop Inv-loop μ-loop
 add-loop c = omega arith
+
+-- there is a parameter after i
+inside : (c : tie.In-loop Inv-loop μ-loop) → c .before .loop .i + 1 < length (c .before .before .before .args .params .now)
+inside c = omega (arith, c .loop-test .taken, c .before .before .before .pre .0 .least)
 
 add-i : tie.Need-add-i Inv-loop μ-loop
 add-i c = omega arith
@@ -88,18 +92,18 @@ loop-again c =
     let a = c .before .before .before .before .args in
     let l = c .before .before .loop in
     let params = a .params .now in
-    let left : suc (length params - 1 - (l .i + 1)) ≡ length params - 1 - l .i = omega (arith, c .before .loop-test .taken) in
+    let left : suc (length params - 1 - (l .i + 1)) ≡ length params - 1 - l .i = omega (arith, inside (c .before)) in
     let turn = knots-turn params (l .i) (l .out) (l .at) (length params - 1 - (l .i + 1)) ∙ ap (λ k. sets (l .out) (l .at) (knotsLeft params (l .i) k)) left in
-    (c .before .loop-test .taken, omega arith, simp length-set (simp length-set at (l .inv .2)), simp length-set (l .inv .3), turn ∙ l .inv .4)
+    (inside (c .before), omega arith, simp length-set (simp length-set at (l .inv .2)), simp length-set (l .inv .3), turn ∙ l .inv .4)
+
+mul-last : tie.Need-mul-last Inv-loop μ-loop
+mul-last c = omega arith
+
+shared-slice-read-last : tie.Need-shared-slice-read-last Inv-loop μ-loop
+shared-slice-read-last c = omega arith
 
 mul-out-4 : tie.Need-mul-out-4 Inv-loop μ-loop
 mul-out-4 c = omega arith
-
-shared-slice-read-out : tie.Need-shared-slice-read-out Inv-loop μ-loop
-shared-slice-read-out c = omega arith
-
-mul-out-5 : tie.Need-mul-out-5 Inv-loop μ-loop
-mul-out-5 c = omega arith
 
 slice-write-out-8 : tie.Need-slice-write-out-8 Inv-loop μ-loop
 slice-write-out-8 c = omega arith
@@ -142,9 +146,9 @@ write-knots-spec =
     add-at
     loop-less
     loop-again
+    mul-last
+    shared-slice-read-last
     mul-out-4
-    shared-slice-read-out
-    mul-out-5
     slice-write-out-8
     same-length
     returns)
