@@ -1,0 +1,6 @@
+-- Laws of digits and of text that is put into a list.
+pub mod Controls
+pub mod DecimalLaws
+pub mod LengthLaws
+pub mod LinesLaws
+pub mod PutLaws

@@ -1,0 +1,74 @@
+-- The lines that the program prints (heading "Worked by hand"); each ends in a newline.
+use mathlib.Core.List.{List, [], _∷_, _++_}
+use Prim.Native.Nat.{ℕ}
+use Rattle.lines.specs.Letters.{a, c, d, e, f, g, i, l, m, n, o, p, r, s, t, u, v, y, space, dot, newline}
+use Rattle.lines.specs.Decimal.{decimal}
+
+-- "curve degree "
+abbrev pub curveWord : List ℕ
+curveWord = c ∷ u ∷ r ∷ v ∷ e ∷ space ∷ d ∷ e ∷ g ∷ r ∷ e ∷ e ∷ space ∷ []
+
+-- " points "
+abbrev pub pointsWord : List ℕ
+pointsWord = space ∷ p ∷ o ∷ i ∷ n ∷ t ∷ s ∷ space ∷ []
+
+-- " spans "
+abbrev pub spansWord : List ℕ
+spansWord = space ∷ s ∷ p ∷ a ∷ n ∷ s ∷ space ∷ []
+
+-- "clamp "
+abbrev pub clampWord : List ℕ
+clampWord = c ∷ l ∷ a ∷ m ∷ p ∷ space ∷ []
+
+-- " may meet "
+abbrev pub meetWord : List ℕ
+meetWord = space ∷ m ∷ a ∷ y ∷ space ∷ m ∷ e ∷ e ∷ t ∷ space ∷ []
+
+-- ".."
+abbrev pub toWord : List ℕ
+toWord = dot ∷ dot ∷ []
+
+-- " clear" and the end of the line
+abbrev pub clearWord : List ℕ
+clearWord = space ∷ c ∷ l ∷ e ∷ a ∷ r ∷ newline ∷ []
+
+-- "refused "
+abbrev pub refusedWord : List ℕ
+refusedWord = r ∷ e ∷ f ∷ u ∷ s ∷ e ∷ d ∷ space ∷ []
+
+-- the end of a line
+abbrev pub lineEnd : List ℕ
+lineEnd = newline ∷ []
+
+-- a word and the number behind it
+abbrev pub labelled : List ℕ → ℕ → List ℕ
+labelled word number = word ++ decimal number
+
+-- "curve degree D points P spans S"
+unfoldable pub curveLine : ℕ → ℕ → ℕ → List ℕ
+curveLine degree points spans =
+    labelled curveWord degree ++ labelled pointsWord points ++ labelled spansWord spans ++ lineEnd
+
+-- "clamp K may meet LOW..HIGH"
+unfoldable pub meetLine : ℕ → ℕ → ℕ → List ℕ
+meetLine k low high =
+    labelled clampWord k ++ labelled meetWord low ++ labelled toWord high ++ lineEnd
+
+-- "clamp K clear"
+unfoldable pub clearLine : ℕ → List ℕ
+clearLine k = labelled clampWord k ++ clearWord
+
+-- "refused N"
+unfoldable pub refusedLine : ℕ → List ℕ
+refusedLine number = labelled refusedWord number ++ lineEnd
+
+-- one line for each listed span, whose two knots stand at the same place of the two lists
+unfoldable pub meetLines : ℕ → List ℕ → List ℕ → List ℕ
+meetLines k [] highs = []
+meetLines k (low ∷ lows) [] = []
+meetLines k (low ∷ lows) (high ∷ highs) = meetLine k low high ++ meetLines k lows highs
+
+-- all that is printed of a clamp: its listed spans, or that it is clear
+unfoldable pub clampText : ℕ → List ℕ → List ℕ → List ℕ
+clampText k [] highs = clearLine k
+clampText k (low ∷ lows) highs = meetLines k (low ∷ lows) highs

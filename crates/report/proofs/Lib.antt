@@ -1,0 +1,4 @@
+-- Laws of the parts of the text.
+pub mod CountLaws
+pub mod PartLaws
+pub mod ToldLaws

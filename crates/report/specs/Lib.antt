@@ -1,0 +1,3 @@
+-- The text of the program, a part at a time.
+pub mod Parts
+pub mod Told
