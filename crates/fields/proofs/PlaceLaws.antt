@@ -2,7 +2,7 @@
 use mathlib.Core.Path.{_≡_, refl, sym, ap, _∙_}
 use mathlib.Core.List.{List, [], _∷_, _++_, append-assoc, append-nil}
 use Prim.Native.Nat.{ℕ, zero, suc, _+_, _*_, _<_, _≤_}
-use native.Mathlib.Nat.{add-zero, add-assoc, add-comm, mul-zero, mul-suc, mul-le-mul-left}
+use native.Mathlib.Nat.{add-zero, zero-add, add-assoc, add-comm, mul-zero, mul-suc, mul-le-mul-left}
 use native.Mathlib.Numerals.{add-one}
 use native.Mathlib.Omega.{arith}
 use lib.ListN.{length, getD, take, drop, set, length-append, length-drop, take-append-drop}
@@ -16,6 +16,10 @@ module _ {A : Type 0} where
   -- nothing put is nothing changed
   pub putAt-nil : (before : List A) (at : ℕ) → before ≡ putAt before at []
   putAt-nil before at = rw (add-zero, append-nil, take-append-drop)
+
+  -- put at the front is put over
+  pub putAt-front : (before part : List A) → putAt before 0 part ≡ over part before
+  putAt-front before part = rw zero-add
 
   -- what was put, with what stands before it
   length-front : (before part : List A) (at : ℕ) → at ≤ length before → length (take at before ++ part) ≡ at + length part
@@ -55,38 +59,46 @@ module _ {A : Type 0} (read : ℕ → A) (width : ℕ) where
       ap (λ (l : List A). read at ∷ l) (entriesAt-more (at + width) count)
       ∙ ap (λ (k : ℕ). read at ∷ (entriesAt read width (at + width) count ++ (read k ∷ []))) place
 
-module _ {A : Type 0} (bytesOf : A → List ℕ) (width : ℕ) (wide : (x : A) → length (bytesOf x) ≡ width) where
-  pub length-each : (xs : List A) → length (each bytesOf xs) ≡ width * length xs
+module _ {A B : Type 0} (partsOf : A → List B) (width : ℕ) (wide : (x : A) → length (partsOf x) ≡ width) where
+  pub length-each : (xs : List A) → length (each partsOf xs) ≡ width * length xs
   length-each [] = sym (mul-zero width)
   length-each (x ∷ xs) =
-      length-append (bytesOf x) (each bytesOf xs)
-      ∙ ap (λ (k : ℕ). k + length (each bytesOf xs)) (wide x)
+      length-append (partsOf x) (each partsOf xs)
+      ∙ ap (λ (k : ℕ). k + length (each partsOf xs)) (wide x)
       ∙ ap (λ (k : ℕ). width + k) (length-each xs)
       ∙ simp (mul-suc, add-comm)
 
-  pub each-append : (xs ys : List A) → each bytesOf (xs ++ ys) ≡ each bytesOf xs ++ each bytesOf ys
+  pub each-append : (xs ys : List A) → each partsOf (xs ++ ys) ≡ each partsOf xs ++ each partsOf ys
   each-append [] ys = refl
-  each-append (x ∷ xs) ys = ap (λ (l : List ℕ). bytesOf x ++ l) (each-append xs ys) ∙ sym (append-assoc (bytesOf x) (each bytesOf xs) (each bytesOf ys))
+  each-append (x ∷ xs) ys = ap (λ (l : List B). partsOf x ++ l) (each-append xs ys) ∙ sym (append-assoc (partsOf x) (each partsOf xs) (each partsOf ys))
 
   -- a turn of the loop that puts entries: the next one's bytes behind those of the entries before it
-  pub put-turn : (before now : List ℕ) (at i place : ℕ) (xs : List A) (z : A) → i < length xs → at + width * length xs ≤ length before
-      → place ≡ at + width * i → now ≡ putAt before at (each bytesOf (take i xs))
-      → putAt now place (bytesOf (getD xs i z)) ≡ putAt before at (each bytesOf (take (i + 1) xs))
+  pub put-turn : (before now : List B) (at i place : ℕ) (xs : List A) (z : A) → i < length xs → at + width * length xs ≤ length before
+      → place ≡ at + width * i → now ≡ putAt before at (each partsOf (take i xs))
+      → putAt now place (partsOf (getD xs i z)) ≡ putAt before at (each partsOf (take (i + 1) xs))
   put-turn before now at i place xs z h room e k =
       let x : A = getD xs i z in
-      let written : List ℕ = each bytesOf (take i xs) in
+      let written : List B = each partsOf (take i xs) in
       let size : length written ≡ width * i = length-each (take i xs) ∙ ap (λ (l : ℕ). width * l) (length-take-le i xs (omega arith)) in
       let more : width * suc i ≤ width * length xs = mul-le-mul-left width h in
       let step : width * suc i ≡ width * i + width = mul-suc width i in
-      let fits : at + length written + length (bytesOf x) ≤ length before = omega (arith, wide x) in
+      let fits : at + length written + length (partsOf x) ≤ length before = omega (arith, wide x) in
       let behind : place ≡ at + length written = e ∙ ap (λ (l : ℕ). at + l) (sym size) in
-      ap (λ (l : List ℕ). putAt l place (bytesOf x)) k
-      ∙ ap (λ (l : ℕ). putAt (putAt before at written) l (bytesOf x)) behind
-      ∙ putAt-join before at written (bytesOf x) fits
+      ap (λ (l : List B). putAt l place (partsOf x)) k
+      ∙ ap (λ (l : ℕ). putAt (putAt before at written) l (partsOf x)) behind
+      ∙ putAt-join before at written (partsOf x) fits
       ∙ ap (putAt before at)
-      (ap (λ (l : List ℕ). written ++ l) (sym (append-nil (bytesOf x)))
+      (ap (λ (l : List B). written ++ l) (sym (append-nil (partsOf x)))
       ∙ sym (each-append (take i xs) (x ∷ []))
-      ∙ ap (each bytesOf) (sym (take-suc xs i z h) ∙ ap (λ (l : ℕ). take l xs) (sym (add-one i))))
+      ∙ ap (each partsOf) (sym (take-suc xs i z h) ∙ ap (λ (l : ℕ). take l xs) (sym (add-one i))))
+
+-- the entry at an index is the one that stands at its place
+pub entriesAt-entry : {A : Type 0} (read : ℕ → A) (width at count i : ℕ) (d : A) → i < count → getD (entriesAt read width at count) i d ≡ read (at + width * i)
+entriesAt-entry read width at zero i d h = absurd (omega arith)
+entriesAt-entry read width at (suc count) zero d h = rw (mul-zero, add-zero)
+entriesAt-entry read width at (suc count) (suc i) d h =
+    let place : at + width + width * i ≡ at + width * suc i = omega (arith, mul-suc width i) in
+    entriesAt-entry read width (at + width) count i d (omega arith) ∙ ap read place
 
 -- a turn of the loop that reads entries: the next one behind those before it
 pub read-turn : {A : Type 0} (read : ℕ → A) (width at i place : ℕ) (before now : List A) → i < length before → place ≡ at + width * i

@@ -22,10 +22,10 @@ twosComplement z = ofZ w32 z
 abbrev pub i32Bytes : ℤ → List ℕ
 i32Bytes z = u32Bytes (twosComplement z)
 
--- the bytes of each entry, one entry after the other
-abbrev pub each : {A : Type 0} → (A → List ℕ) → List A → List ℕ
-each bytesOf [] = []
-each bytesOf (x ∷ xs) = bytesOf x ++ each bytesOf xs
+-- the parts of each entry, as its bytes, one entry after the other
+abbrev pub each : {A B : Type 0} → (A → List B) → List A → List B
+each partsOf [] = []
+each partsOf (x ∷ xs) = partsOf x ++ each partsOf xs
 
 -- knots, two bytes each
 abbrev pub knotBytes : List ℕ → List ℕ

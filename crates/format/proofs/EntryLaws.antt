@@ -39,7 +39,7 @@ quad-bytes a b c d ha hb hc hd =
     rw (isA, isB, isC, isD)
 
 -- what holds of each entry that may be read holds of all that were
-entries-all : {A : Type 0} (read : ℕ → A) (width : ℕ) (d : A) (P : A → Type 0) → ((at : ℕ) → P (read at)) → P d
+pub entries-all : {A : Type 0} (read : ℕ → A) (width : ℕ) (d : A) (P : A → Type 0) → ((at : ℕ) → P (read at)) → P d
     → (at count i : ℕ) → P (getD (entriesAt read width at count) i d)
 entries-all read width d P each none at zero i = none
 entries-all read width d P each none at (suc count) zero = each at

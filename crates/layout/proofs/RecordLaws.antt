@@ -23,7 +23,7 @@ use Rattle.layout.specs.declared.Taken.the-variants.{Field}
 use Rattle.layout.proofs.SplitLaws.{Whole, Laid, layout-known, layout-within, field-split, field-found, length-whole, length-right}
 
 -- what follows a field, by its place
-behind : (at next tag : ℕ) (bytes contents rest : List ℕ) → next ≡ at + (3 + length contents) → drop at bytes ≡ fieldBytes tag contents ++ rest → drop next bytes ≡ rest
+pub behind : (at next tag : ℕ) (bytes contents rest : List ℕ) → next ≡ at + (3 + length contents) → drop at bytes ≡ fieldBytes tag contents ++ rest → drop next bytes ≡ rest
 behind at next tag bytes contents rest n e =
     ap (λ (p : ℕ). drop p bytes) n
     ∙ sym (drop-drop (3 + length contents) at bytes)

@@ -2,23 +2,19 @@
 use mathlib.Core.Path.{_≡_, sym, _∙_}
 use mathlib.Core.List.{List}
 use Prim.Native.Nat.{ℕ, _<_, _≤_}
-use native.Mathlib.Nat.{zero-add}
 use native.Mathlib.Omega.{arith}
 use lib.IntN.{ℤ}
 use lib.ListN.{length}
 use borrow.Author.Tests.{le-leb, lt-leb, ne-eqb}
-use Rattle.lent.specs.Lent.{over, after}
+use Rattle.lent.specs.Lent.{after}
 use Rattle.refusal.specs.Numbers.{roomRefused}
 use Rattle.grid.specs.Check.{checkNumber}
 use Rattle.grid.proofs.ThenLaws.{checkedThen-refused, checkedThen-passed}
 use Rattle.fields.specs.Places.{putAt}
+use Rattle.fields.proofs.PlaceLaws.{putAt-front}
 use Rattle.format.specs.Format.{form1, recordBytes}
 use Rattle.record.specs.Writing.{writeNumber, writeAnswer}
 use Rattle.record.specs.declared.WriteAnswer.the-variants.{Written, Refused}
-
--- put at the front is put over
-pub putAt-front : (before part : List ℕ) → putAt before 0 part ≡ over part before
-putAt-front before part = rw zero-add
 
 module _ (m : ℕ) (ts : List ℕ) (xs ys : List ℤ) (out : List ℕ) where
   -- the answer and the list where a number refuses

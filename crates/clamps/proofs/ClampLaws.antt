@@ -1,0 +1,153 @@
+-- Clamps' fields are judged sound exactly where the bytes behind a record are some clamps' bytes, and these tell their clamps.
+use mathlib.Core.Bool.{Bool, true, false, cond}
+use mathlib.Core.Path.{_≡_, refl, sym, ap, _∙_}
+use mathlib.Core.List.{List, [], _∷_, _++_}
+use Prim.Native.Nat.{ℕ, zero, suc, _+_, _*_, _-_, _≤_, zero-le}
+use native.Mathlib.Nat.{add-zero}
+use native.Mathlib.Omega.{arith}
+use lib.Dec.{leb, lit<, lit≤}
+use lib.IntN.{pos}
+use lib.ListN.{length, getD, take, drop, length-drop, length-append, drop-of-length-le}
+use mir.Syntax.{w32}
+use mir.Val.{SFits}
+use mir.Facts.{sfits-toZ, sfits-lit}
+use borrow.Author.Tests.{leb-true, eqb-false}
+use Rattle.fields.specs.Bytes.{fieldBytes, coordinateBytes, Octets}
+use Rattle.fields.specs.Places.{i32At, coordinatesAt}
+use Rattle.format.proofs.EntryLaws.{coordinates-exact, bits-fit, entries-all}
+use Rattle.format.proofs.InjectiveLaws.{field-injective, coordinates-injective, each-injective}
+use Rattle.layout.specs.Judging.{fieldAt}
+use Rattle.layout.specs.declared.Fault.{Fault}
+use Rattle.layout.specs.declared.Fault.the-variants.{LeftOver}
+use Rattle.layout.specs.declared.Taken.{Taken}
+use Rattle.layout.specs.declared.Taken.the-variants.{Field, Broken as Untaken}
+use Rattle.layout.proofs.SplitLaws.{Whole, field-known, field-split, field-found, length-least, length-most, length-right}
+use Rattle.layout.proofs.RecordLaws.{behind}
+use Rattle.clamps.specs.Clamp.{Clamp, ClampFits, noClamp, sides, clampTag, clampField, clampFields, clampAt, clampsAt}
+use Rattle.clamps.specs.Tail.{clampRule, thenClamps, clampsFrom}
+use Rattle.clamps.specs.declared.Tail.{Tail}
+use Rattle.clamps.specs.declared.Tail.the-variants.{Clamps, Broken}
+use Rattle.clamps.proofs.TailLaws.{clamp-inside, tail-done, tail-next}
+
+broken-tail : (fault : Fault) (n : ℕ) → Broken fault ≡ Clamps n → ⊥
+broken-tail fault n e = let z : _≡_ {A = ℕ} 0 1 = cc in omega arith
+
+-- clamps from a place to the end of the bytes, `many` of them
+pub record Run (bytes : List ℕ) (at many : ℕ) : Type 0 where
+  pub ends : at + 19 * many ≡ length bytes
+  pub same : drop at bytes ≡ clampFields (clampsAt bytes at many)
+
+module _ (bytes : List ℕ) (octets : Octets bytes) where
+  -- one field that was taken is the field of the clamp that stands there
+  field-clamp : (at len : ℕ) → fieldAt clampRule bytes at ≡ Field len → drop at bytes ≡ clampField (clampAt bytes at) ++ drop (at + 19) bytes
+  field-clamp at len e =
+      let whole : Whole clampRule bytes at len = field-known clampRule bytes at len e in
+      let size : len ≡ 16 = omega (arith, length-least clampRule len (whole .right), length-most clampRule len (whole .right)) in
+      let inside : at + 3 + 4 * 4 ≤ length bytes = omega (arith, whole .inside) in
+      let contents : take len (drop (at + 3) bytes) ≡ coordinateBytes (coordinatesAt bytes (at + 3) 4) =
+      ap (λ (n : ℕ). take n (drop (at + 3) bytes)) size ∙ sym (coordinates-exact bytes octets (at + 3) 4 inside) in
+      let second : at + 3 + 4 ≡ at + 7 = omega arith in
+      let third : at + 3 + 4 + 4 ≡ at + 11 = omega arith in
+      let fourth : at + 3 + 4 + 4 + 4 ≡ at + 15 = omega arith in
+      let stands : coordinatesAt bytes (at + 3) 4 ≡ sides (clampAt bytes at) = rw (fourth, third, second) in
+      let end : at + 3 + len ≡ at + 19 = omega arith in
+      field-split clampRule bytes at len octets whole
+      ∙ ap (λ (l : List ℕ). fieldBytes clampTag l ++ drop (at + 3 + len) bytes) (contents ∙ ap coordinateBytes stands)
+      ∙ ap (λ (k : ℕ). clampField (clampAt bytes at) ++ drop k bytes) end
+
+  run-none : (at : ℕ) → at ≤ length bytes → length bytes ≤ at → Run bytes at 0
+  run-none at h k = record { ends = omega arith; same = drop-of-length-le bytes k }
+
+  run-more : (at len k : ℕ) → fieldAt clampRule bytes at ≡ Field len → Run bytes (at + 19) k → Run bytes at (suc k)
+  run-more at len k e r =
+      record {
+        ends = omega (arith, r .ends);
+        same = field-clamp at len e ∙ ap (λ (l : List ℕ). clampField (clampAt bytes at) ++ l) (r .same);
+      }
+
+  -- what a count of clamps says: so many more, and they stand there up to the end
+  abbrev Counted : ℕ → ℕ → ℕ → ℕ → Type 0
+  Counted left at count n = (k : ℕ) × (n ≡ count + k) × (k ≤ left) × Run bytes at k
+
+  counted-none : (left at count n : ℕ) → at ≤ length bytes → leb (length bytes) at ≡ true → Clamps count ≡ Clamps n → Counted left at count n
+  counted-none left at count n inside b e =
+      let same : count ≡ n = cc in
+      (0, omega arith, zero-le, run-none at inside (leb-true (length bytes) at b))
+
+  counted-last : (at count n : ℕ) → at ≤ length bytes → (b : Bool) → leb (length bytes) at ≡ b → cond b (Clamps count) (Broken (LeftOver at)) ≡ Clamps n
+      → Counted 0 at count n
+  counted-last at count n inside true b e = counted-none 0 at count n inside b e
+  counted-last at count n inside false b e = absurd (broken-tail (LeftOver at) n e)
+
+  counted-taken : (left at count n : ℕ) (next : Tail) → (at + 19 ≤ length bytes → next ≡ Clamps n → Counted left (at + 19) (count + 1) n)
+      → (t : Taken) → fieldAt clampRule bytes at ≡ t → thenClamps t next ≡ Clamps n → Counted (suc left) at count n
+  counted-taken left at count n next others (Untaken fault) f e = absurd (broken-tail fault n e)
+  counted-taken left at count n next others (Field len) f e =
+      let rest = others (clamp-inside bytes at len f) e in
+      (suc (rest .0), omega (arith, rest .1), omega (arith, rest .2), run-more at len (rest .0) f (rest .3))
+
+  counted-more : (left at count n : ℕ) (next : Tail) → at ≤ length bytes → (at + 19 ≤ length bytes → next ≡ Clamps n → Counted left (at + 19) (count + 1) n)
+      → (b : Bool) → leb (length bytes) at ≡ b → cond b (Clamps count) (thenClamps (fieldAt clampRule bytes at) next) ≡ Clamps n → Counted (suc left) at count n
+  counted-more left at count n next inside others true b e = counted-none (suc left) at count n inside b e
+  counted-more left at count n next inside others false b e = counted-taken left at count n next others (fieldAt clampRule bytes at) refl e
+
+  pub clamps-known : (left at count n : ℕ) → at ≤ length bytes → clampsFrom left bytes at count ≡ Clamps n
+      → (k : ℕ) × (n ≡ count + k) × (k ≤ left) × Run bytes at k
+  unfolding clampsFrom
+  clamps-known zero at count n inside e = counted-last at count n inside (leb (length bytes) at) refl e
+  clamps-known (suc left) at count n inside e =
+      counted-more left at count n (clampsFrom left bytes (at + 19) (count + 1)) inside (λ i f. clamps-known left (at + 19) (count + 1) n i f)
+      (leb (length bytes) at) refl e
+
+-- some clamps' bytes behind a place are counted there
+pub clamps-found : (bytes : List ℕ) (cs : List Clamp) (left at count : ℕ) → at ≤ length bytes → drop at bytes ≡ clampFields cs → length cs ≤ left
+    → clampsFrom left bytes at count ≡ Clamps (count + length cs)
+clamps-found bytes [] left at count inside e few =
+    let none : length bytes - at ≡ 0 = sym (length-drop at bytes) ∙ ap length e in
+    tail-done bytes at count left (omega arith) ∙ ap Clamps (sym (add-zero count))
+clamps-found bytes (c ∷ cs) zero at count inside e few = absurd (omega arith)
+clamps-found bytes (c ∷ cs) (suc left) at count inside e few =
+    let size : length bytes - at ≡ 19 + length (clampFields cs) =
+    sym (length-drop at bytes) ∙ ap length e ∙ length-append (clampField c) (clampFields cs) in
+    let taken : fieldAt clampRule bytes at ≡ Field 16 =
+    field-found clampRule bytes (coordinateBytes (sides c)) (clampFields cs) at (lit< tt)
+    (length-right clampRule 16 (lit≤ tt) (lit≤ tt) (eqb-false 16 0 refl) refl) e in
+    let rest : drop (at + 19) bytes ≡ clampFields cs = behind at (at + 19) clampTag bytes (coordinateBytes (sides c)) (clampFields cs) refl e in
+    let total : count + 1 + length cs ≡ count + suc (length cs) = omega arith in
+    tail-next bytes at count (omega arith) (suc left) left 16 refl taken
+    ∙ clamps-found bytes cs left (at + 19) (count + 1) (omega arith) rest (omega arith)
+    ∙ ap Clamps total
+
+-- the sides that stand in bytes are 32-bit numbers
+pub clamps-fit : (bytes : List ℕ) → Octets bytes → (at count i : ℕ) → ClampFits (getD (clampsAt bytes at count) i noClamp)
+clamps-fit bytes octets at count i =
+    let side : (k : ℕ) → SFits w32 (i32At bytes k) = λ k. sfits-toZ (bits-fit bytes octets k) in
+    entries-all (clampAt bytes) 19 noClamp ClampFits
+    (λ k. record { lowX = side (k + 3); highX = side (k + 7); lowY = side (k + 11); highY = side (k + 15) })
+    (record { lowX = sfits-lit tt; highX = sfits-lit tt; lowY = sfits-lit tt; highY = sfits-lit tt }) at count i
+
+-- a clamp's sides fit, side by side
+sides-fit : (c : Clamp) → ClampFits c → (i : ℕ) → SFits w32 (getD (sides c) i (pos 0))
+sides-fit c f zero = f .lowX
+sides-fit c f (suc zero) = f .highX
+sides-fit c f (suc (suc zero)) = f .lowY
+sides-fit c f (suc (suc (suc zero))) = f .highY
+sides-fit c f (suc (suc (suc (suc i)))) = sfits-lit tt
+
+-- a clamp is told by its field
+clamp-injective : (c d : Clamp) → ClampFits c → ClampFits d → clampField c ≡ clampField d → c ≡ d
+clamp-injective c d f g e =
+    let contents = field-injective clampTag (coordinateBytes (sides c)) (coordinateBytes (sides d)) [] [] (lit< tt) (lit< tt) (ap (λ (l : List ℕ). l ++ []) e) in
+    let same : sides c ≡ sides d = coordinates-injective (sides c) (sides d) (sides-fit c f) (sides-fit d g) (contents .0) in
+    λ i.
+    record {
+      lowX = getD (same i) 0 (pos 0);
+      highX = getD (same i) 1 (pos 0);
+      lowY = getD (same i) 2 (pos 0);
+      highY = getD (same i) 3 (pos 0);
+    }
+
+-- clamps are told by their fields
+pub clamps-injective : (cs ds : List Clamp) → ((i : ℕ) → ClampFits (getD cs i noClamp)) → ((i : ℕ) → ClampFits (getD ds i noClamp))
+    → clampFields cs ≡ clampFields ds → cs ≡ ds
+clamps-injective = each-injective clampField 18 (λ _. refl) noClamp ClampFits clamp-injective
