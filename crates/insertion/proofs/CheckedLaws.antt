@@ -1,7 +1,7 @@
 -- What the check says to an insertion: the knots never fall, and the coordinates are on the grid.
 use mathlib.Core.Bool.{true, _&&_}
 use mathlib.Core.List.{List, [], _∷_}
-use mathlib.Core.Path.{_≡_}
+use mathlib.Core.Path.{_≡_, refl}
 use Prim.Native.Nat.{ℕ, zero, suc, _+_, _-_, _≤_, _<_}
 use native.Mathlib.Omega.{arith}
 use lib.Dec.{ltb, leb}
@@ -10,7 +10,7 @@ use lib.ListN.{length, getD, drop, length-drop}
 use lib.Seq.{getD-drop}
 use lib.Signed.{leZ}
 use borrow.Author.Tests.{ltb-true}
-use Rattle.signed.proofs.BoundLaws.{size-of-bounds}
+use Rattle.signed.proofs.BoundLaws.{size-of-bounds, low-of-size, high-of-size}
 use Rattle.grid.specs.Limits.{coordinateMost}
 use Rattle.grid.specs.Rows.{risesFrom, knotOrderOk, onGrid, allOnGrid, rangeOk, occurrences}
 use Rattle.grid.specs.Check.{Passes}
@@ -80,3 +80,13 @@ module _ (m : ℕ) (ts : List ℕ) (xs ys : List ℤ) (v : ℕ) (h : Passes m ts
         high = rw (s .as-many) high;
         range = sizes-of-grid ys (both (allOnGrid xs) (allOnGrid ys) (t .range) .1);
       }
+
+-- and back
+pub grid-of-size : (z : ℤ) → natAbs z ≤ coordinateMost → onGrid z ≡ true
+unfolding onGrid
+grid-of-size z h = rw (low-of-size coordinateMost z h, high-of-size coordinateMost z h)
+
+pub grid-of-sizes : (zs : List ℤ) → ((j : ℕ) → natAbs (getD zs j (pos 0)) ≤ coordinateMost) → allOnGrid zs ≡ true
+unfolding allOnGrid
+grid-of-sizes [] h = refl
+grid-of-sizes (z ∷ zs) h = rw (grid-of-size z (h 0), grid-of-sizes zs (λ j. h (suc j)))

@@ -9,3 +9,5 @@ pub mod WholeLaws
 pub mod PointLaws
 pub mod CheckedLaws
 pub mod JudgedLaws
+pub mod PassLaws
+pub mod ResultLaws

@@ -6,6 +6,8 @@ use Prim.Native.Nat.{ℕ, zero, suc, _+_, _-_, _≤_, _<_}
 use native.Mathlib.Omega.{arith}
 use lib.IntN.{ℤ}
 use Rattle.signed.specs.Division.{divides}
+use Rattle.grid.proofs.OrderLaws.{both}
+use Rattle.insertion.proofs.OrderLaws.{either}
 use Rattle.insertion.specs.Insertion.{insertionSpan, wholePoints, wholeFrom, weight, weightedSum}
 
 module _ (m : ℕ) (ts : List ℕ) (ps : List ℤ) (v i : ℕ) where
@@ -38,3 +40,33 @@ module _ (m : ℕ) (ts : List ℕ) (ps : List ℤ) (v i : ℕ) where
   whole-ends j e whole =
       let none : i + 1 - j ≡ 0 = omega arith in
       rw (whole, none)
+
+-- all quotients of a walk are whole exactly where each is
+from-each : (m : ℕ) (ts : List ℕ) (ps : List ℤ) (v count first : ℕ) → wholeFrom m ts ps v count first ≡ true
+    → (j : ℕ) → first ≤ j → j < first + count → divides (weight m ts j) (weightedSum m ts ps v j) ≡ true
+unfolding wholeFrom
+from-each m ts ps v zero first h j a b = absurd (omega arith)
+from-each m ts ps v (suc count) first h j a b =
+    let p = both (divides (weight m ts first) (weightedSum m ts ps v first)) (wholeFrom m ts ps v count (first + 1)) h in
+    let rest = from-each m ts ps v count (first + 1) (p .1) j in
+    either first j
+    (λ later. rest (omega arith) (omega arith))
+    (λ here. let same : j ≡ first = omega arith in rw same (p .0))
+
+from-of-each : (m : ℕ) (ts : List ℕ) (ps : List ℤ) (v count first : ℕ)
+    → ((j : ℕ) → first ≤ j → j < first + count → divides (weight m ts j) (weightedSum m ts ps v j) ≡ true) → wholeFrom m ts ps v count first ≡ true
+unfolding wholeFrom
+from-of-each m ts ps v zero first each = refl
+from-of-each m ts ps v (suc count) first each =
+    rw (each first (omega arith) (omega arith), from-of-each m ts ps v count (first + 1) (λ j a b. each j (omega arith) (omega arith)))
+
+module _ (m : ℕ) (ts : List ℕ) (ps : List ℤ) (v : ℕ) (least : m ≤ insertionSpan ts v) where
+  pub whole-each : wholePoints m ts ps v ≡ true → (j : ℕ) → insertionSpan ts v < j + m → j ≤ insertionSpan ts v
+      → divides (weight m ts j) (weightedSum m ts ps v j) ≡ true
+  unfolding wholePoints
+  whole-each h j a b = from-each m ts ps v m (insertionSpan ts v + 1 - m) h j (omega arith) (omega arith)
+
+  pub whole-of-each : ((j : ℕ) → insertionSpan ts v < j + m → j ≤ insertionSpan ts v → divides (weight m ts j) (weightedSum m ts ps v j) ≡ true)
+      → wholePoints m ts ps v ≡ true
+  unfolding wholePoints
+  whole-of-each each = from-of-each m ts ps v m (insertionSpan ts v + 1 - m) (λ j a b. each j (omega arith) (omega arith))

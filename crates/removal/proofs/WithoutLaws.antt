@@ -1,0 +1,129 @@
+-- The knots with one v fewer, entry by entry; inserting v into them gives the knots again.
+use mathlib.Core.Bool.{Bool, true, false, cond}
+use mathlib.Core.List.{List, [], _∷_}
+use mathlib.Core.Path.{_≡_, refl, sym, ap, _∙_}
+use Prim.Native.Nat.{ℕ, zero, suc, _+_, _-_, _≤_, _<_}
+use native.Mathlib.Numerals.{add-one}
+use native.Mathlib.Omega.{arith}
+use lib.Dec.{eqb, leb}
+use lib.ListN.{length, getD, drop, drop-of-length-le}
+use lib.Seq.{drop-cons}
+use borrow.Author.Tests.{eq-eqb, ne-eqb, eqb-true, le-leb, leb-true}
+use Rattle.grid.specs.Limits.{knotMost}
+use Rattle.grid.specs.Rows.{risesFrom, occurrences}
+use Rattle.grid.proofs.RepeatLaws.{rises-cons}
+use Rattle.insertion.specs.Insertion.{insertedKnots}
+use Rattle.insertion.proofs.OrderLaws.{either}
+use Rattle.removal.specs.Removal.{withoutOne}
+use Rattle.removal.specs.Polygon.{placeOf}
+
+-- a value that stands somewhere has a first place
+pub place-present : (v : ℕ) (ts : List ℕ) → 0 < occurrences v ts → placeOf v ts < length ts
+unfolding placeOf occurrences
+place-present v [] h = absurd (omega arith)
+place-present v (t ∷ ts) h = go (eqb t v) (place-present v ts) h
+  where
+    go : (b : Bool) → (0 < occurrences v ts → placeOf v ts < length ts)
+        → 0 < cond b (suc (occurrences v ts)) (occurrences v ts) → cond b 0 (suc (placeOf v ts)) < suc (length ts)
+    go true rest s = omega arith
+    go false rest s = let r = rest s in omega arith
+
+pub without-length : (v : ℕ) (ts : List ℕ) → placeOf v ts < length ts → length (withoutOne v ts) + 1 ≡ length ts
+unfolding placeOf withoutOne
+without-length v [] h = absurd (omega arith)
+without-length v (t ∷ ts) h = go (eqb t v) (without-length v ts) h
+  where
+    go : (b : Bool) → (placeOf v ts < length ts → length (withoutOne v ts) + 1 ≡ length ts)
+        → cond b 0 (suc (placeOf v ts)) < suc (length ts) → length (cond b ts (t ∷ withoutOne v ts)) + 1 ≡ suc (length ts)
+    go true rest s = add-one (length ts)
+    go false rest s = let r = rest (omega arith) in omega arith
+
+pub without-before : (v : ℕ) (ts : List ℕ) (j : ℕ) → j < placeOf v ts → getD (withoutOne v ts) j 0 ≡ getD ts j 0
+unfolding placeOf withoutOne
+without-before v [] j h = absurd (omega arith)
+without-before v (t ∷ ts) zero h = go (eqb t v) h
+  where
+    go : (b : Bool) → zero < cond b 0 (suc (placeOf v ts)) → getD (cond b ts (t ∷ withoutOne v ts)) zero 0 ≡ t
+    go true s = absurd (omega arith)
+    go false s = refl
+without-before v (t ∷ ts) (suc j) h = go (eqb t v) (without-before v ts j) h
+  where
+    go : (b : Bool) → (j < placeOf v ts → getD (withoutOne v ts) j 0 ≡ getD ts j 0)
+        → suc j < cond b 0 (suc (placeOf v ts)) → getD (cond b ts (t ∷ withoutOne v ts)) (suc j) 0 ≡ getD ts j 0
+    go true rest s = absurd (omega arith)
+    go false rest s = rest (omega arith)
+
+pub without-behind : (v : ℕ) (ts : List ℕ) (j : ℕ) → placeOf v ts ≤ j → getD (withoutOne v ts) j 0 ≡ getD ts (suc j) 0
+unfolding placeOf withoutOne
+without-behind v [] j h = refl
+without-behind v (t ∷ ts) zero h = go (eqb t v) h
+  where
+    go : (b : Bool) → cond b 0 (suc (placeOf v ts)) ≤ zero → getD (cond b ts (t ∷ withoutOne v ts)) zero 0 ≡ getD ts zero 0
+    go true s = refl
+    go false s = absurd (omega arith)
+without-behind v (t ∷ ts) (suc j) h = go (eqb t v) (without-behind v ts j) h
+  where
+    go : (b : Bool) → (placeOf v ts ≤ j → getD (withoutOne v ts) j 0 ≡ getD ts (suc j) 0)
+        → cond b 0 (suc (placeOf v ts)) ≤ suc j → getD (cond b ts (t ∷ withoutOne v ts)) (suc j) 0 ≡ getD ts (suc j) 0
+    go true rest s = refl
+    go false rest s = rest (omega arith)
+
+-- a value that stands in the rest is not below its start
+present-above : (low v : ℕ) (ts : List ℕ) → risesFrom low ts ≡ true → 0 < occurrences v ts → low ≤ v
+unfolding occurrences
+present-above low v [] h s = absurd (omega arith)
+present-above low v (t ∷ ts) h s = go (eqb t v) refl (present-above t v ts (p .1)) s
+  where
+    p : (low ≤ t) × (risesFrom t ts ≡ true) × (t ≤ knotMost)
+    p = rises-cons low t ts h
+
+    go : (b : Bool) → eqb t v ≡ b → (0 < occurrences v ts → t ≤ v) → 0 < cond b (suc (occurrences v ts)) (occurrences v ts) → low ≤ v
+    go true e rest s = omega (arith, eqb-true t v e, p .0)
+    go false e rest s = omega (arith, rest s, p .0)
+
+-- v goes to the front of knots that do not begin below it
+inserted-front : (v : ℕ) (ts : List ℕ) → risesFrom v ts ≡ true → insertedKnots ts v ≡ v ∷ ts
+unfolding insertedKnots
+inserted-front v [] h = refl
+inserted-front v (t ∷ ts) h = go (leb t v) refl (λ e. inserted-front v ts (rw e at (p .1)))
+  where
+    p : (v ≤ t) × (risesFrom t ts ≡ true) × (t ≤ knotMost)
+    p = rises-cons v t ts h
+
+    go : (b : Bool) → leb t v ≡ b → (t ≡ v → insertedKnots ts v ≡ v ∷ ts) → cond b (t ∷ insertedKnots ts v) (v ∷ t ∷ ts) ≡ v ∷ t ∷ ts
+    go true e rest = let same : t ≡ v = omega (arith, leb-true t v e, p .0) in rw (rest same, same)
+    go false e rest = refl
+
+pub without-inserted : (low v : ℕ) (ts : List ℕ) → risesFrom low ts ≡ true → 0 < occurrences v ts → insertedKnots (withoutOne v ts) v ≡ ts
+unfolding withoutOne insertedKnots occurrences
+without-inserted low v [] h s = absurd (omega arith)
+without-inserted low v (t ∷ ts) h s = go (eqb t v) refl (without-inserted t v ts (p .1)) s
+  where
+    p : (low ≤ t) × (risesFrom t ts ≡ true) × (t ≤ knotMost)
+    p = rises-cons low t ts h
+
+    go : (b : Bool) → eqb t v ≡ b → (0 < occurrences v ts → insertedKnots (withoutOne v ts) v ≡ ts)
+        → 0 < cond b (suc (occurrences v ts)) (occurrences v ts) → insertedKnots (cond b ts (t ∷ withoutOne v ts)) v ≡ t ∷ ts
+    go true e rest s = let same = eqb-true t v e in inserted-front v ts (rw same at (p .1)) ∙ rw same
+    go false e rest s =
+        rw (le-leb t v (present-above t v ts (p .1) s)) (ap (λ (l : List ℕ). t ∷ l) (rest s))
+
+-- a walk from the left: it stops at the first v, goes on at any other knot, and ends with the list
+pub place-stops : (v : ℕ) (ts : List ℕ) (i : ℕ) → i < length ts → placeOf v ts ≡ i + placeOf v (drop i ts) → getD ts i 0 ≡ v → i ≡ placeOf v ts
+unfolding placeOf
+place-stops v ts i inside whole here =
+    let rest : placeOf v (drop i ts) ≡ 0 = rw (drop-cons ts i 0 inside, eq-eqb (getD ts i 0) v here) in
+    omega arith
+
+pub place-more : (v : ℕ) (ts : List ℕ) (i : ℕ) → i < length ts → placeOf v ts ≡ i + placeOf v (drop i ts) → (getD ts i 0 ≡ v → ⊥)
+    → placeOf v ts ≡ i + 1 + placeOf v (drop (i + 1) ts)
+unfolding placeOf
+place-more v ts i inside whole other =
+    let rest : placeOf v (drop i ts) ≡ suc (placeOf v (drop (suc i) ts)) = rw (drop-cons ts i 0 inside, ne-eqb (getD ts i 0) v other) in
+    rw (add-one i) (omega arith)
+
+pub place-none : (v : ℕ) (ts : List ℕ) (i : ℕ) → length ts ≤ i → placeOf v ts ≡ i + placeOf v (drop i ts) → i ≡ placeOf v ts
+unfolding placeOf
+place-none v ts i past whole =
+    let rest : placeOf v (drop i ts) ≡ 0 = rw (drop-of-length-le ts past) in
+    omega arith
