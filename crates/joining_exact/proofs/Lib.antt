@@ -1,0 +1,5 @@
+-- Laws of the joined curve against the check and the exact curve.
+pub mod KnotLaws
+pub mod OrderLaws
+pub mod RepeatLaws
+pub mod PassesLaws

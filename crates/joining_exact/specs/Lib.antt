@@ -1,0 +1,2 @@
+-- The Hermite cubic between spline points.
+pub mod HermitePoint
