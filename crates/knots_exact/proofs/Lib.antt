@@ -3,3 +3,4 @@ pub mod SpanRuleLaws
 pub mod InsertedLaws
 pub mod InsertionLaws
 pub mod SameLaws
+pub mod RemovalLaws

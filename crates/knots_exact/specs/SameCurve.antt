@@ -11,6 +11,7 @@ use Rattle.span.specs.Span.{inDomain}
 use Rattle.refusal.specs.Numbers.{accepted}
 use Rattle.insertion.specs.Insertion.{insertedKnots, insertedPoints}
 use Rattle.insertion.specs.Judged.{insertionNumber}
+use Rattle.removal.specs.Removal.{Reinserts}
 
 -- knots ts and coordinates ps on one axis against knots us and coordinates qs: the domain is the same, and so is the exact coordinate
 -- at every fraction p/q of the domain
@@ -30,3 +31,8 @@ InsertKeepsCurve =
     (m : ℕ) (ts : List ℕ) (xs ys : List ℤ) (v roomKnots roomXs roomYs : ℕ)
     → insertionNumber m ts xs ys v roomKnots roomXs roomYs ≡ accepted
     → SameCurve m ts xs ys (insertedKnots ts v) (insertedPoints m ts xs v) (insertedPoints m ts ys v)
+
+-- whenever a polygon gives the old points back on reinsertion, which is when removing v is accepted, its curve is the old one
+abbrev pub RemoveKeepsCurve : Type 0
+RemoveKeepsCurve =
+    (m v : ℕ) (ks : List ℕ) (px py : List ℤ) (ts : List ℕ) (xs ys : List ℤ) → Reinserts m v ks px py ts xs ys → SameCurve m ts xs ys ks px py

@@ -11,7 +11,8 @@ use Rattle.exact.proofs.DomainLaws.{domain-span}
 use Rattle.point_at_exact.proofs.PointNearLaws.{point-near-exact}
 use Rattle.spans_met_exact.proofs.CrossingLaws.{every-crossing-reported}
 use Rattle.knots_exact.proofs.InsertionLaws.{insert-keeps-curve}
-use Rattle.promises.specs.Promises.{CheckGivesLowestRow, EveryParameterHasItsSpan, ComputedPointNearExact, CrossingsReported, InsertionKeepsCurve}
+use Rattle.knots_exact.proofs.RemovalLaws.{remove-keeps-curve}
+use Rattle.promises.specs.Promises.{CheckGivesLowestRow, EveryParameterHasItsSpan, ComputedPointNearExact, CrossingsReported, InsertionKeepsCurve, RemovalKeepsCurve}
 
 pub check-gives-lowest-row : CheckGivesLowestRow
 check-gives-lowest-row m ts xs ys = (check-answers m ts xs ys, check-answers-none m ts xs ys)
@@ -34,3 +35,6 @@ crossings-reported = every-crossing-reported
 
 pub insertion-keeps-curve : InsertionKeepsCurve
 insertion-keeps-curve = insert-keeps-curve
+
+pub removal-keeps-curve : RemovalKeepsCurve
+removal-keeps-curve = remove-keeps-curve

@@ -12,7 +12,7 @@ use Rattle.checked.specs.Sentences.{RowApplies}
 use Rattle.span.specs.Span.{IsSpan, spanOf, inDomain}
 use Rattle.point_at_exact.specs.PointNear.{PointNearExact}
 use Rattle.spans_met_exact.specs.Crossing.{EveryCrossingReported}
-use Rattle.knots_exact.specs.SameCurve.{InsertKeepsCurve}
+use Rattle.knots_exact.specs.SameCurve.{InsertKeepsCurve, RemoveKeepsCurve}
 
 -- "Numbers of refusal": the check answers n exactly when row n applies and no lower row does, and 0 exactly when no row does
 abbrev pub CheckGivesLowestRow : Type 0
@@ -41,3 +41,7 @@ CrossingsReported = EveryCrossingReported
 -- "Inserting and removing a knot": inserting a knot changes neither the domain nor the exact point at any fraction of it
 abbrev pub InsertionKeepsCurve : Type 0
 InsertionKeepsCurve = InsertKeepsCurve
+
+-- "Inserting and removing a knot": nor does removing one: a polygon that gives the old points back has the old curve
+abbrev pub RemovalKeepsCurve : Type 0
+RemovalKeepsCurve = RemoveKeepsCurve
