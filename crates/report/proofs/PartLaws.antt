@@ -4,7 +4,7 @@ use mathlib.Core.Path.{_≡_, refl, _∙_, ap}
 use Prim.Native.Nat.{ℕ, _+_, _/_, _≤_, _<_}
 use native.Mathlib.Nat.{zero-add}
 use native.Mathlib.Omega.{arith}
-use lib.ListN.{length, drop}
+use lib.ListN.{length, drop, length-append}
 use borrow.Author.Tests.{lt-leb, le-leb, lt-ltb, le-ltb, eq-eqb, ne-eqb}
 use Rattle.lent.specs.Lent.{over}
 use Rattle.grid.specs.Limits.{pointsMost, clampsMost}
@@ -26,6 +26,11 @@ pub filled-text : {text part before after : List ℕ} {count : ℕ} → part ≡
 filled-text {text} {part} {before} {after} {count} e w =
     rw e
     (omega (arith, w .place), w .holds ∙ ap (λ (k : ℕ). text ++ drop k before) (zero-add (length text)))
+
+-- what was put lies within the list
+pub filled-fits : (part before : List ℕ) {after : List ℕ} {count : ℕ} → count ≡ length part → after ≡ over part before → count ≤ length after
+filled-fits part before {after} {count} e f =
+    omega (arith, e, ap length f, length-append part (drop (length part) before))
 
 -- the line on a refusal, by its room
 pub refusedPart-none : (number room : ℕ) → room < refusedLineMost → refusedPart number room ≡ []
