@@ -1,0 +1,4 @@
+-- Laws of an exported call's answer.
+pub mod Answers
+pub mod ArmLaws
+pub mod CarryingLaws

@@ -1,0 +1,66 @@
+-- `tsaghnobir::tsb_join` meets its contract: each arm knows the number, and the first the count.
+use mathlib.Core.Path.{_≡_, ap, sym, _∙_}
+use borrow.Author.Needs.{needs}
+use Rattle.joining.specs.Answer.{joinAnswer}
+use Rattle.tsaghnobir.proofs.ArmLaws.{done-arm, refused-arm, placed-refused}
+use Rattle.tsaghnobir.proofs.Answers.{join-variants}
+use Rattle.tsaghnobir.proofs.spline_points.tsb_join.Statement.{statement}
+use Rattle.tsaghnobir.proofs.spline_points.tsb_join.Tie as tie
+
+join-through-points-requires : tie.Need-join-through-points-requires
+join-through-points-requires c κs = search needs
+
+enum-known-answer : tie.Need-enum-known-answer
+enum-known-answer c = search needs
+
+enum-known-answer-2 : tie.Need-enum-known-answer-2
+enum-known-answer-2 c = search needs
+
+same-length : tie.Need-same-length
+same-length c = search needs
+
+same-length-2 : tie.Need-same-length-2
+same-length-2 c = search needs
+
+same-length-3 : tie.Need-same-length-3
+same-length-3 c = search needs
+
+returns : tie.Need-returns
+unfolding joinAnswer
+returns c =
+    let call = c .before .before .before .before .before .before .before .join-through-points in
+    let d = done-arm join-variants _ _ (c .before .answer .given .0 .0) (sym (c .before .answer .given .1) ∙ call .ensures .0) in
+    (sym (d .0), (rw (d .0) at (call .ensures .1), d .1))
+
+same-length-4 : tie.Need-same-length-4
+same-length-4 c = search needs
+
+same-length-5 : tie.Need-same-length-5
+same-length-5 c = search needs
+
+same-length-6 : tie.Need-same-length-6
+same-length-6 c = search needs
+
+returns-2 : tie.Need-returns-2
+unfolding joinAnswer
+returns-2 c =
+    let call = c .before .before .before .before .before .before .before .join-through-points in
+    let n = c .before .answer2 .given .0 .0 in
+    let d = refused-arm join-variants _ _ n (sym (c .before .answer2 .given .1) ∙ call .ensures .0) in
+    (sym (d .0), (rw (d .0) at (call .ensures .1), placed-refused n _ _ (d .1)))
+
+pub tsb-join-spec : {M : Type 1} → statement M
+tsb-join-spec =
+    tie.close
+    (tie.spec
+    join-through-points-requires
+    enum-known-answer
+    enum-known-answer-2
+    same-length
+    same-length-2
+    same-length-3
+    returns
+    same-length-4
+    same-length-5
+    same-length-6
+    returns-2)

@@ -1,0 +1,3 @@
+-- What the exported calls leave in the single numbers lent to them.
+pub mod Places
+pub mod Reading

@@ -1,0 +1,58 @@
+// Writing and reading records.
+use record::ReadAnswer;
+use record::WriteAnswer;
+ghost use mathlib.Core.Path.{_≡_};
+ghost use lib.ListN.{length};
+ghost use Rattle.lent.specs.Lent.{after};
+ghost use Rattle.format.specs.Format.{form1, recordBytes};
+ghost use Rattle.record.specs.Writing.{writeNumber};
+ghost use Rattle.tsaghnobir.specs.Places.{placed};
+ghost use Rattle.tsaghnobir.specs.Reading.{ReadThrough};
+
+#[no_mangle]
+pub extern "C" fn tsb_write_record(
+    degree: u32,
+    knots: &[u16],
+    xs: &[i32],
+    ys: &[i32],
+    out: &mut [u8],
+    length: &mut usize,
+) -> u32
+    ensures answer { λ r. ⌜ r ≡ writeNumber degree (now (knots .entry)) (now (xs .entry)) (now (ys .entry)) (now (out .entry)) ⌝ }
+    ensures result { λ r. ⌜ now (out .exit) ≡ after r (recordBytes form1 degree (now (knots .entry)) (now (xs .entry)) (now (ys .entry))) (now (out .entry)) ⌝ }
+    ensures count { λ r. ⌜ now (length .exit) ≡ placed r (lib.ListN.length (recordBytes form1 degree (now (knots .entry)) (now (xs .entry)) (now (ys .entry)))) (now (length .entry)) ⌝ }
+{
+    let answer = record::write_record(degree, knots, xs, ys, out);
+    match answer {
+        WriteAnswer::Written(bytes) => {
+            *length = bytes;
+            refusal::ACCEPTED
+        }
+        WriteAnswer::Refused(number) => number,
+    }
+}
+
+#[no_mangle]
+pub extern "C" fn tsb_read_record(
+    bytes: &[u8],
+    out_knots: &mut [u16],
+    out_xs: &mut [i32],
+    out_ys: &mut [i32],
+    degree: &mut u32,
+    points: &mut usize,
+) -> u32
+    ensures answer { λ r. ⌜ ReadThrough (now (bytes .entry)) (now («out_knots» .entry)) (now («out_xs» .entry)) (now («out_ys» .entry)) (now («out_knots» .exit)) (now («out_xs» .exit)) (now («out_ys» .exit)) r (now (degree .entry)) (now (degree .exit)) (now (points .entry)) (now (points .exit)) ⌝ }
+{
+    let answer = record::read_record(bytes, out_knots, out_xs, out_ys);
+    match answer {
+        ReadAnswer::Curve {
+            degree: m,
+            points: count,
+        } => {
+            *degree = m;
+            *points = count;
+            refusal::ACCEPTED
+        }
+        ReadAnswer::Refused(number) => number,
+    }
+}

@@ -1,0 +1,34 @@
+// Inserting and removing knots.
+use insert_knot::InsertAnswer;
+ghost use mathlib.Core.Path.{_≡_};
+ghost use Prim.Native.Nat.{_+_};
+ghost use lib.ListN.{length};
+ghost use Rattle.insertion.specs.Judged.{insertionNumber};
+ghost use Rattle.insert_knot.specs.Lists.{InsertedLists};
+ghost use Rattle.tsaghnobir.specs.Places.{placed};
+
+#[no_mangle]
+pub extern "C" fn tsb_insert(
+    degree: u32,
+    knots: &[u16],
+    xs: &[i32],
+    ys: &[i32],
+    v: u32,
+    out_knots: &mut [u16],
+    out_xs: &mut [i32],
+    out_ys: &mut [i32],
+    points: &mut usize,
+) -> u32
+    ensures answer { λ r. ⌜ r ≡ insertionNumber degree (now (knots .entry)) (now (xs .entry)) (now (ys .entry)) v (length (now («out_knots» .entry))) (length (now («out_xs» .entry))) (length (now («out_ys» .entry))) ⌝ }
+    ensures result { λ r. ⌜ InsertedLists r degree (now (knots .entry)) (now (xs .entry)) (now (ys .entry)) v (now («out_knots» .entry)) (now («out_xs» .entry)) (now («out_ys» .entry)) (now («out_knots» .exit)) (now («out_xs» .exit)) (now («out_ys» .exit)) ⌝ }
+    ensures count { λ r. ⌜ now (points .exit) ≡ placed r (length (now (xs .entry)) + 1) (now (points .entry)) ⌝ }
+{
+    let answer = insert_knot::insert_knot(degree, knots, xs, ys, v, out_knots, out_xs, out_ys);
+    match answer {
+        InsertAnswer::Inserted(count) => {
+            *points = count;
+            refusal::ACCEPTED
+        }
+        InsertAnswer::Refused(number) => number,
+    }
+}

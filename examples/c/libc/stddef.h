@@ -1,0 +1,6 @@
+/* What the C programs of this repository use of <stddef.h>, for the kit's clang, which comes without headers. */
+#ifndef KIT_STDDEF_H
+#define KIT_STDDEF_H
+typedef __SIZE_TYPE__ size_t;
+#define NULL ((void *)0)
+#endif

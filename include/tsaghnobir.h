@@ -1,0 +1,196 @@
+/*
+ * Tsaghnobir: plane B-spline curves on a grid of whole numbers.
+ *
+ * Every function here is an export of a proved library: for any numbers and any contents of the lists it
+ * ends, does nothing undefined, and gives exactly the answer that its definition in the repository says.
+ * Link with libtsaghnobir.a (x86-64 Linux). No function allocates, keeps anything, prints or calls back,
+ * so any number of threads may call them at once.
+ *
+ * A CURVE is four things, handed over in this order by every call that takes one:
+ *
+ *   degree          1, 2 or 3
+ *   knots           numbers from 0 to 16383 that never fall; one for each point and degree + 1 more.
+ *                   The first degree + 1 are equal, the last degree + 1 are equal, and the first is below
+ *                   the last; the end values stand nowhere else, and no value between them stands more
+ *                   than degree times
+ *   xs, ys          the coordinates of the control points, as many x as y: at least degree + 1 points and
+ *                   at most 1024. Each coordinate lies from -262144 to 262144
+ *
+ * The curve is defined for parameters from the first knot to the last, both included.
+ * No curve has to be checked beforehand: every call judges what it is given and refuses what is no curve.
+ *
+ * THE RESULT of every function is a refusal number: 0 (TSB_OK) if the call was carried out, else the number
+ * of the reason, one of the TSB_.. values below. Where several reasons apply, the call names the one that it
+ * judges first; the order stands with each call. A refused call has changed nothing that was lent to it.
+ * After success the first entries of each result list hold the result, the entries behind are as before,
+ * and the single numbers lent by a pointer hold what is said with the call.
+ *
+ * WHAT THE CALLER OWES, because no proof can see it from inside:
+ *   - a pointer is valid for as many entries as its length says and aligned for its type; a pointer to a
+ *     single number is valid and aligned, and never null;
+ *   - what is written through (a result list, a single number) overlaps neither an input list nor anything
+ *     else that is written through, as `restrict` says. Two input lists may overlap;
+ *   - nothing else reads or writes these places while the call runs;
+ *   - a list of length 0 may be a null pointer; any other may not;
+ *   - a length counts entries, not bytes, and a list is at most 2^63 - 1 bytes.
+ */
+#ifndef TSAGHNOBIR_H
+#define TSAGHNOBIR_H
+
+#include <stddef.h>
+#include <stdint.h>
+
+/* Raised whenever a call below changes: its parameters, what it does, or what it refuses. */
+#define TSB_API_VERSION 1
+
+/* The limits, and places that are always enough for a result. */
+#define TSB_POINTS_MOST 1024       /* points of a curve */
+#define TSB_KNOTS_MOST 1028        /* knots of a curve */
+#define TSB_KNOT_MOST 16383        /* value of a knot */
+#define TSB_COORDINATE_MOST 262144 /* size of a coordinate, a tangent or a rectangle's side */
+#define TSB_SPLINE_POINTS_MOST 342 /* spline points to join */
+#define TSB_RECORD_MOST 10261      /* bytes of a record */
+#define TSB_JOB_MOST 11477         /* bytes of a job */
+#define TSB_CLAMPS_MOST 64         /* clamps of a job */
+
+/* The refusal numbers. */
+enum tsb_refusal {
+    TSB_OK = 0,             /* not refused */
+    TSB_DEGREE = 1,         /* the degree is not 1, 2 or 3 */
+    TSB_POINT_COUNT = 2,    /* xs and ys differ in length, or hold fewer than degree + 1 or more than 1024 points */
+    TSB_KNOT_COUNT = 3,     /* the number of knots is not that of the points + degree + 1 */
+    TSB_KNOT_ORDER = 4,     /* a knot is above 16383 or below the knot before it */
+    TSB_ENDS = 5,           /* the first or the last degree + 1 knots are not all equal, or first and last knot are equal */
+    TSB_REPEATS = 6,        /* an end value stands more than degree + 1 times, or another value more than degree times */
+    TSB_RANGE = 7,          /* a coordinate or a tangent lies beyond +-262144 */
+    TSB_PARAMETER = 8,      /* the parameter lies outside the curve's domain */
+    TSB_INSERTION = 9,      /* insertion: the value is not strictly between the ends, or stands there degree times already */
+    TSB_FULL = 10,          /* insertion: the curve has 1024 points already */
+    TSB_NOT_WHOLE = 11,     /* a new coordinate would not be a whole number */
+    TSB_NOT_INNER = 12,     /* removal: the value is no knot strictly between the ends */
+    TSB_NOT_REMOVABLE = 13, /* removal: no whole points within range give the old curve with the value inserted again */
+    TSB_RECTANGLE = 14,     /* a rectangle's low side lies above its high side, or a side beyond +-262144 */
+    TSB_ROOM = 15,          /* a result list has too few places */
+    TSB_BYTES = 16,         /* the bytes are no record, or no job */
+    TSB_SPLINE_POINTS = 17, /* spline points: under 2 or over 342, lists of unequal length, or parameters that do not rise strictly or go above 16383 */
+    TSB_JOINED_RANGE = 18   /* joining: a control point would lie beyond +-262144 */
+};
+
+/* C++ and compilers before C99 lack the word; where the compiler has its own, it is used. */
+#if defined(__cplusplus) || !defined(__STDC_VERSION__) || __STDC_VERSION__ < 199901L
+#if defined(__GNUC__) || defined(__clang__) || defined(_MSC_VER)
+#define TSB_RESTRICT __restrict
+#else
+#define TSB_RESTRICT
+#endif
+#else
+#define TSB_RESTRICT restrict
+#endif
+
+#ifdef __cplusplus
+extern "C" {
+#endif
+
+/*
+ * Is this a curve? 0, or the lowest of 1 to 7 that applies.
+ */
+uint32_t tsb_check(
+    uint32_t degree, const uint16_t *knots, size_t knots_len,
+    const int32_t *xs, size_t xs_len, const int32_t *ys, size_t ys_len);
+
+/*
+ * The point of the curve at the parameter t, a whole number of the domain, goes to *x and *y. It is worked
+ * out by de Boor's triangle in IEEE 754 binary64 with a fixed order of operations, so the bits are the same
+ * everywhere, and each coordinate is within 2^-30 of the exact one.
+ * Refused by 1 to 7, then 8.
+ */
+uint32_t tsb_point(
+    uint32_t degree, const uint16_t *knots, size_t knots_len,
+    const int32_t *xs, size_t xs_len, const int32_t *ys, size_t ys_len,
+    uint32_t t, double *TSB_RESTRICT x, double *TSB_RESTRICT y);
+
+/*
+ * Which control points carry the curve at t: the entries *first to *first + degree of xs and ys, and no
+ * others. The point at t lies in their convex hull.
+ * Refused by 1 to 7, then 8.
+ */
+uint32_t tsb_carrying(
+    uint32_t degree, const uint16_t *knots, size_t knots_len,
+    const int32_t *xs, size_t xs_len, const int32_t *ys, size_t ys_len,
+    uint32_t t, size_t *TSB_RESTRICT first);
+
+/*
+ * The same curve with the knot v once more (Boehm's insertion): knots_len + 1 knots to out_knots, one point
+ * more than before to out_xs and out_ys, and the new number of points to *points.
+ * Refused by 1 to 7, then 9, 10, 11 (a new coordinate on either axis would not be whole), then 15.
+ */
+uint32_t tsb_insert(
+    uint32_t degree, const uint16_t *knots, size_t knots_len,
+    const int32_t *xs, size_t xs_len, const int32_t *ys, size_t ys_len,
+    uint32_t v,
+    uint16_t *TSB_RESTRICT out_knots, size_t out_knots_len,
+    int32_t *TSB_RESTRICT out_xs, size_t out_xs_len,
+    int32_t *TSB_RESTRICT out_ys, size_t out_ys_len,
+    size_t *TSB_RESTRICT points);
+
+/*
+ * A curve of degree 3 through spline points: at the parameter params[i] it passes through (px[i], py[i])
+ * with the tangent (tx[i], ty[i]), in grid steps per unit of the parameter. With k + 1 spline points the
+ * result has 3k + 1 points, whose number goes to *points, and 3k + 5 knots: each end value four times, each
+ * parameter between three times.
+ * Refused by 17, then 7, 11, 18, 15: in this order, each judged over all pieces and both axes.
+ */
+uint32_t tsb_join(
+    const uint16_t *params, size_t params_len,
+    const int32_t *px, size_t px_len, const int32_t *py, size_t py_len,
+    const int32_t *tx, size_t tx_len, const int32_t *ty, size_t ty_len,
+    uint16_t *TSB_RESTRICT out_knots, size_t out_knots_len,
+    int32_t *TSB_RESTRICT out_xs, size_t out_xs_len,
+    int32_t *TSB_RESTRICT out_ys, size_t out_ys_len,
+    size_t *TSB_RESTRICT points);
+
+/*
+ * Where the curve may meet a clamp, the rectangle from low_x to high_x and from low_y to high_y with its
+ * sides. A span is a part of the domain between two different neighbouring knots; it is listed if the box
+ * of its carrying points meets the rectangle, a shared side or corner included. The lower knot of each goes
+ * to lows, the upper to highs, in rising order, and their number to *count. Whatever parameter, whole or
+ * not, the exact curve meets the clamp at, a listed span holds it; a listed span need not meet the clamp.
+ * Both lists need a place for every span of the curve, listed or not: at most xs_len - degree.
+ * Refused by 1 to 7, then 14, then 15.
+ */
+uint32_t tsb_spans(
+    uint32_t degree, const uint16_t *knots, size_t knots_len,
+    const int32_t *xs, size_t xs_len, const int32_t *ys, size_t ys_len,
+    int32_t low_x, int32_t high_x, int32_t low_y, int32_t high_y,
+    uint16_t *TSB_RESTRICT lows, size_t lows_len,
+    uint16_t *TSB_RESTRICT highs, size_t highs_len,
+    size_t *TSB_RESTRICT count);
+
+/*
+ * The curve as a record, a string of bytes to keep or to send: the number of bytes goes to *length. Each curve
+ * has exactly one record, of 13 + 2 * knots_len + 8 * xs_len bytes, at most TSB_RECORD_MOST.
+ * Refused by 1 to 7, then 15.
+ */
+uint32_t tsb_write_record(
+    uint32_t degree, const uint16_t *knots, size_t knots_len,
+    const int32_t *xs, size_t xs_len, const int32_t *ys, size_t ys_len,
+    uint8_t *TSB_RESTRICT out, size_t out_len,
+    size_t *TSB_RESTRICT length);
+
+/*
+ * The curve whose record the bytes are: its knots, x and y go to the three lists, its degree to *degree and
+ * its number of points to *points; it has *points + *degree + 1 knots. What is read is a curve.
+ * Refused by 16 (all the bytes, first to last, are no record), then 1 to 7, then 15.
+ */
+uint32_t tsb_read_record(
+    const uint8_t *bytes, size_t bytes_len,
+    uint16_t *TSB_RESTRICT out_knots, size_t out_knots_len,
+    int32_t *TSB_RESTRICT out_xs, size_t out_xs_len,
+    int32_t *TSB_RESTRICT out_ys, size_t out_ys_len,
+    uint32_t *TSB_RESTRICT degree, size_t *TSB_RESTRICT points);
+
+#ifdef __cplusplus
+}
+#endif
+
+#endif
