@@ -18,7 +18,16 @@ from second_program.expected import Unexpected
 from second_program.vectors import CALLS, answer_file, case_file
 
 FOLDER = Path(__file__).resolve().parent.parent / "crates" / "vectors"
-WIRED = CALLS  # the calls that the program of crates/vectors runs
+WIRED = (  # the calls that the program of crates/vectors runs
+    "check",
+    "point_at",
+    "carrying",
+    "insert_knot",
+    "join_through_points",
+    "list_spans_met",
+    "write_record",
+    "read_record",
+)
 
 LEAST_CASES = 2000
 LEAST_OF_CALL = 50
@@ -53,7 +62,7 @@ def too_few(calls, cases):
         for number in REFUSALS[call]:
             if of_refusal[call, number] < LEAST_OF_REFUSAL:
                 yield "%s has %d cases of refusal %d" % (call, of_refusal[call, number], number)
-    if tuple(calls) == CALLS and len(cases) < LEAST_CASES:
+    if tuple(calls) == WIRED and len(cases) < LEAST_CASES:
         yield "there are %d cases in all" % len(cases)
 
 

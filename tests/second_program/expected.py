@@ -5,7 +5,7 @@ from .fault import PLANTED
 from .random_curves import random_curve, spoiled_curve
 
 EACH_REFUSAL = 21
-SUCCESSES = 60
+SUCCESSES = 80
 WIDE = (1100, 1100, 1100)
 WORKED_A = Curve(3, [0, 0, 0, 0, 4, 4, 4, 4], [0, 0, 8, 8], [0, 8, 8, 0])
 WORKED_B = Curve(2, [0, 0, 0, 2, 4, 4, 4], [0, 4, 8, 12], [0, 8, 8, 0])

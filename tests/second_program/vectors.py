@@ -1,7 +1,8 @@
 """How a case and its answer stand in the files; all numbers low byte first.
 
 A case is its length in 4 bytes and a body: the call's number in 1 byte, then the arguments. A list is its count in 4 bytes
-and its entries (u8, u16 or i32); degree, t, v and a capacity are u32, a rectangle four i32, an axis 1 byte (0 is x).
+and its entries (u8, u16 or i32); degree, t, v, a capacity and an axis (0 is x) are u32, a rectangle is four i32. The curve
+comes first, what the call names beside it next, capacities last.
 A lent result list is given by its capacity alone: before the call entry k of it holds 7k + 13 (u16), 9k - 5 (i32) or
 (5k + 3) mod 256 (u8), and the number lent to `carrying` holds 77.
 
@@ -104,7 +105,7 @@ def point_at(curve, t):
 @answering
 def carrying(curve, t, axis):
     number, part = curves.carrying(curve, t, axis)
-    arguments = bytes([axis]) + curve_bytes(curve) + u32(t)
+    arguments = curve_bytes(curve) + u32(t, axis)
     return case("carrying", number, arguments, lent_list("i32", part), size(curve), curve, [t])
 
 
