@@ -1,0 +1,3 @@
+-- Laws of judging and reading a job.
+pub mod JobReadLaws
+pub mod JobLayoutLaws

@@ -1,0 +1,85 @@
+// Reads a job: a curve's record, and the clamps behind it.
+mod getting;
+
+use clamps::Tail;
+use layout::Fault;
+use layout::Layout;
+ghost use mathlib.Core.Path.{_≡_};
+ghost use Rattle.job.specs.JobJudging.{jobLayout};
+ghost use Rattle.job.specs.JobReading.{JobRead};
+
+// The lengths of a job's fields of knots, x and y, and the number of its clamps. Or why there is no job.
+pub enum JobLayout {
+    Sound {
+        knots: usize,
+        xs: usize,
+        ys: usize,
+        clamps: usize,
+    },
+    Broken(Fault),
+}
+
+// Degree, number of points and number of clamps of a job that was read, or why there is none.
+pub enum JobAnswer {
+    Job {
+        degree: u32,
+        points: usize,
+        clamps: usize,
+    },
+    Refused(u32),
+}
+
+// Judges the whole job.
+pub fn job_layout(bytes: &[u8]) -> JobLayout
+    ensures answer { λ r. ⌜ r ≡ jobLayout (now (bytes .entry)) ⌝ }
+{
+    match layout::record_layout(bytes) {
+        Layout::Sound { knots, xs, ys } => match clamps::clamps_behind(
+            bytes,
+            13 + knots + xs + ys,
+        ) {
+            Tail::Clamps(count) => JobLayout::Sound {
+                knots,
+                xs,
+                ys,
+                clamps: count,
+            },
+            Tail::Broken(fault) => JobLayout::Broken(fault),
+        },
+        Layout::Broken(fault) => JobLayout::Broken(fault),
+    }
+}
+
+// Reads the job's curve into the front of three lists, and the sides of its clamps into that of a fourth.
+pub fn read_job(
+    bytes: &[u8],
+    out_knots: &mut [u16],
+    out_xs: &mut [i32],
+    out_ys: &mut [i32],
+    clamps: &mut [i32],
+) -> JobAnswer
+    ensures answer { λ r. ⌜ JobRead (now (bytes .entry)) (now («out_knots» .entry)) (now («out_xs» .entry)) (now («out_ys» .entry)) (now (clamps .entry)) r
+        (now («out_knots» .exit)) (now («out_xs» .exit)) (now («out_ys» .exit)) (now (clamps .exit)) ⌝ }
+{
+    match job_layout(bytes) {
+        JobLayout::Sound {
+            knots,
+            xs,
+            ys,
+            clamps: count,
+        } => {
+            getting::read_sound(
+                bytes,
+                knots,
+                xs,
+                ys,
+                count,
+                out_knots,
+                out_xs,
+                out_ys,
+                clamps,
+            )
+        }
+        JobLayout::Broken(_) => JobAnswer::Refused(refusal::BYTES),
+    }
+}
