@@ -3,3 +3,7 @@ pub mod KnotLaws
 pub mod OrderLaws
 pub mod RepeatLaws
 pub mod PassesLaws
+pub mod PointLaws
+pub mod ThirdLaws
+pub mod HermiteLaws
+pub mod JoinedLaws

@@ -1,2 +1,3 @@
--- The Hermite cubic between spline points.
+-- The Hermite cubic between spline points, and what is promised of the joined curve.
 pub mod HermitePoint
+pub mod JoinedCurve
