@@ -1,0 +1,77 @@
+-- A refusal leaves the lists; else v is an inner knot, and the work lists are long enough for any curve that passes the check.
+use mathlib.Core.Path.{_≡_, sym, ap, _∙_}
+use native.Mathlib.Omega.{arith}
+use lib.ListN.{length}
+use Rattle.grid.proofs.SizeLaws.{sizes-of-passes}
+use Rattle.removal.specs.Polygon.{Inner}
+use Rattle.remove_knot.specs.declared.RemoveAnswer.the-variants.{Refused}
+use Rattle.remove_knot.specs.Outcome.{refused}
+use Rattle.remove_knot.proofs.JudgedLaws.{inner-of-number}
+use Rattle.remove_knot.proofs.OutcomeLaws.{nothing-written}
+use borrow.Author.Needs.{needs}
+use Rattle.remove_knot.proofs.remove_knot.Statement.{statement}
+use Rattle.remove_knot.proofs.remove_knot.Tie as tie
+
+-- v is an inner knot of a curve that passes the check
+inner : (c : tie.Else1) → Inner (c .before .before .before .before .args .degree) (c .before .before .before .before .args .knots .now) (c .before .before .before .before .args .xs .now) (c .before .before .before .before .args .ys .now) (c .before .before .before .before .args .v)
+inner c =
+    let a = c .before .before .before .before .args in
+    inner-of-number (a .degree) (a .knots .now) (a .xs .now) (a .ys .now) (a .v) (sym (c .before .judge .ensures) ∙ c .if1 .left)
+
+judge-requires : tie.Need-judge-requires
+judge-requires c κs = search needs
+
+returns : tie.Need-returns
+returns c =
+    let a = c .before .before .before .before .args in
+    let e = c .before .judge .ensures in
+    refused (λ z. c .if1 .taken (e ∙ z)) (ap Refused e) (nothing-written (a .out-knots .now) (a .out-xs .now) (a .out-ys .now))
+
+cast-remove-within : tie.Need-cast-remove-within
+cast-remove-within c =
+    let a = c .before .before .before .before .args in
+    omega (arith, inner c .high, c .before .before .before .shared-slice-known .given (length (a .xs .now)))
+
+slice-aggregate-remove-within : tie.Need-slice-aggregate-remove-within
+slice-aggregate-remove-within c = search needs
+
+slice-aggregate-remove-within-2 : tie.Need-slice-aggregate-remove-within-2
+slice-aggregate-remove-within-2 c = search needs
+
+slice-aggregate-remove-within-3 : tie.Need-slice-aggregate-remove-within-3
+slice-aggregate-remove-within-3 c = search needs
+
+remove-within-requires : tie.Need-remove-within-requires
+remove-within-requires c κs =
+    let i = inner (c .before .before .before .before .before .before) in
+    let a = c .before .before .before .before .before .before .before .before .before .before .args in
+    let z = sizes-of-passes (a .degree) (a .knots .now) (a .xs .now) (a .ys .now) (i .passes) in
+    (i, (omega (arith, z .knots, z .most, z .degree-most), (omega (arith, z .most), omega (arith, z .most, z .as-many))))
+
+same-length : tie.Need-same-length
+same-length c = search needs
+
+same-length-2 : tie.Need-same-length-2
+same-length-2 c = search needs
+
+same-length-3 : tie.Need-same-length-3
+same-length-3 c = search needs
+
+returns-2 : tie.Need-returns-2
+returns-2 c = search needs
+
+pub remove-knot-spec : {M : Type 1} → statement M
+remove-knot-spec =
+    tie.close
+    (tie.spec
+    judge-requires
+    returns
+    cast-remove-within
+    slice-aggregate-remove-within
+    slice-aggregate-remove-within-2
+    slice-aggregate-remove-within-3
+    remove-within-requires
+    same-length
+    same-length-2
+    same-length-3
+    returns-2)

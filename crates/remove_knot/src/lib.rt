@@ -1,0 +1,46 @@
+// Removing a knot from a curve ("Inserting and removing a knot"): the call, for any input.
+mod judging;
+mod work;
+
+ghost use Rattle.remove_knot.specs.Outcome.{RemovalOutcome};
+
+// The number of points after the removal, or why it is refused.
+pub enum RemoveAnswer {
+    Removed(usize),
+    Refused(u32),
+}
+
+// Removes v once: the knots, x and y that are left go to the three lent lists. A refusal leaves them as they were found.
+pub fn remove_knot(
+    degree: u32,
+    knots: &[u16],
+    xs: &[i32],
+    ys: &[i32],
+    v: u32,
+    out_knots: &mut [u16],
+    out_xs: &mut [i32],
+    out_ys: &mut [i32],
+) -> RemoveAnswer
+    ensures answer { λ r. ⌜ RemovalOutcome degree (now (knots .entry)) (now (xs .entry)) (now (ys .entry)) v (now («out_knots» .entry)) (now («out_xs» .entry)) (now («out_ys» .entry)) r (now («out_knots» .exit)) (now («out_xs» .exit)) (now («out_ys» .exit)) ⌝ }
+{
+    let number = judging::judge(degree, knots, xs, ys, v);
+    if number != refusal::ACCEPTED {
+        return RemoveAnswer::Refused(number);
+    }
+    let mut work_knots = [0u16; 1028];
+    let mut work_xs = [0i32; 1024];
+    let mut work_ys = [0i32; 1024];
+    work::remove_within(
+        degree as usize,
+        knots,
+        xs,
+        ys,
+        v as u16,
+        &mut work_knots,
+        &mut work_xs,
+        &mut work_ys,
+        out_knots,
+        out_xs,
+        out_ys,
+    )
+}
