@@ -12,7 +12,8 @@ use Rattle.point_at_exact.proofs.PointNearLaws.{point-near-exact}
 use Rattle.spans_met_exact.proofs.CrossingLaws.{every-crossing-reported}
 use Rattle.knots_exact.proofs.InsertionLaws.{insert-keeps-curve}
 use Rattle.knots_exact.proofs.RemovalLaws.{remove-keeps-curve}
-use Rattle.promises.specs.Promises.{CheckGivesLowestRow, EveryParameterHasItsSpan, ComputedPointNearExact, CrossingsReported, InsertionKeepsCurve, RemovalKeepsCurve}
+use Rattle.joining_exact.proofs.JoinedLaws.{join-passes, join-is-hermite}
+use Rattle.promises.specs.Promises.{CheckGivesLowestRow, EveryParameterHasItsSpan, ComputedPointNearExact, CrossingsReported, InsertionKeepsCurve, RemovalKeepsCurve, JoinedCurvePasses, JoinedCurveIsHermite}
 
 pub check-gives-lowest-row : CheckGivesLowestRow
 check-gives-lowest-row m ts xs ys = (check-answers m ts xs ys, check-answers-none m ts xs ys)
@@ -38,3 +39,9 @@ insertion-keeps-curve = insert-keeps-curve
 
 pub removal-keeps-curve : RemovalKeepsCurve
 removal-keeps-curve = remove-keeps-curve
+
+pub joined-curve-passes : JoinedCurvePasses
+joined-curve-passes = join-passes
+
+pub joined-curve-is-hermite : JoinedCurveIsHermite
+joined-curve-is-hermite = join-is-hermite

@@ -12,6 +12,7 @@ use Rattle.checked.specs.Sentences.{RowApplies}
 use Rattle.span.specs.Span.{IsSpan, spanOf, inDomain}
 use Rattle.point_at_exact.specs.PointNear.{PointNearExact}
 use Rattle.spans_met_exact.specs.Crossing.{EveryCrossingReported}
+use Rattle.joining_exact.specs.JoinedCurve.{JoinPasses, JoinIsHermite}
 use Rattle.knots_exact.specs.SameCurve.{InsertKeepsCurve, RemoveKeepsCurve}
 
 -- "Numbers of refusal": the check answers n exactly when row n applies and no lower row does, and 0 exactly when no row does
@@ -45,3 +46,11 @@ InsertionKeepsCurve = InsertKeepsCurve
 -- "Inserting and removing a knot": nor does removing one: a polygon that gives the old points back has the old curve
 abbrev pub RemovalKeepsCurve : Type 0
 RemovalKeepsCurve = RemoveKeepsCurve
+
+-- "Joining spline points": a joined curve passes the check
+abbrev pub JoinedCurvePasses : Type 0
+JoinedCurvePasses = JoinPasses
+
+-- "Joining spline points": its exact curve is the Hermite cubic at every fraction of every interval, on both axes
+abbrev pub JoinedCurveIsHermite : Type 0
+JoinedCurveIsHermite = JoinIsHermite
