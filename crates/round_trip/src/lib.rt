@@ -1,0 +1,1 @@
+// Reading and writing undo each other. There is nothing here that runs.
