@@ -189,6 +189,20 @@ uint32_t tsb_read_record(
     int32_t *TSB_RESTRICT out_ys, size_t out_ys_len,
     uint32_t *TSB_RESTRICT degree, size_t *TSB_RESTRICT points);
 
+/*
+ * A job: a curve's record and behind it up to 64 clamps, of which each is a rectangle to keep the curve clear
+ * of. The curve goes where tsb_read_record puts it; low x, high x, low y, high y of each clamp go to clamps,
+ * and the number of clamps to *clamp_count. clamps_len counts numbers, four for each clamp.
+ * Refused by 16 (all the bytes are no job), then 1 to 7, then 14 for any of the clamps, then 15.
+ */
+uint32_t tsb_read_job(
+    const uint8_t *bytes, size_t bytes_len,
+    uint16_t *TSB_RESTRICT out_knots, size_t out_knots_len,
+    int32_t *TSB_RESTRICT out_xs, size_t out_xs_len,
+    int32_t *TSB_RESTRICT out_ys, size_t out_ys_len,
+    int32_t *TSB_RESTRICT clamps, size_t clamps_len,
+    uint32_t *TSB_RESTRICT degree, size_t *TSB_RESTRICT points, size_t *TSB_RESTRICT clamp_count);
+
 #ifdef __cplusplus
 }
 #endif

@@ -26,7 +26,7 @@ struct curve {
 static struct curve a = {3, 4, {0, 0, 0, 0, 4, 4, 4, 4}, {0, 0, 8, 8}, {0, 8, 8, 0}};
 static struct curve b = {2, 4, {0, 0, 0, 2, 4, 4, 4}, {0, 4, 8, 12}, {0, 8, 8, 0}};
 static struct curve result;
-static uint8_t bytes[TSB_RECORD_MOST];
+static uint8_t bytes[TSB_JOB_MOST];
 
 static void print_points(const struct curve *c)
 {
@@ -105,6 +105,25 @@ static void print_written_and_read(const struct curve *c)
     printf("of no bytes: refused %u\n", (unsigned)refusal);
 }
 
+/* Curve A's record with one clamp behind it: tag 5, length 16, and the four sides, low byte first. */
+static void print_job(const struct curve *c)
+{
+    static const uint8_t clamp[] = {5, 16, 0, 2, 0, 0, 0, 3, 0, 0, 0, 5, 0, 0, 0, 9, 0, 0, 0};
+    int32_t clamps[4 * TSB_CLAMPS_MOST];
+    size_t length, count;
+    tsb_write_record(GIVEN(*c), bytes, sizeof bytes, &length);
+    for (size_t i = 0; i < sizeof clamp; i++)
+        bytes[length + i] = clamp[i];
+    uint32_t refusal = tsb_read_job(
+        bytes, length + sizeof clamp, PLACES(result), clamps, 4 * TSB_CLAMPS_MOST, &result.degree, &result.points, &count);
+    if (refusal != TSB_OK) {
+        printf("job: refused %u\n", (unsigned)refusal);
+        return;
+    }
+    printf("job with %u clamp\n", (unsigned)count);
+    print_spans(&result, clamps[0], clamps[1], clamps[2], clamps[3]);
+}
+
 int main(void)
 {
     size_t first;
@@ -120,6 +139,7 @@ int main(void)
     print_spans(&a, 8, 10, 8, 9);
     print_spans(&a, 3, 2, 5, 9);
     print_written_and_read(&a);
+    print_job(&a);
 
     printf("curve B: check %u\n", (unsigned)tsb_check(GIVEN(b)));
     print_point_at(&b, 1);

@@ -1,4 +1,5 @@
-// Writing and reading records.
+// Writing and reading records, and reading jobs.
+use job::JobAnswer;
 use record::ReadAnswer;
 use record::WriteAnswer;
 ghost use mathlib.Core.Path.{_≡_};
@@ -7,7 +8,7 @@ ghost use Rattle.lent.specs.Lent.{after};
 ghost use Rattle.format.specs.Format.{form1, recordBytes};
 ghost use Rattle.record.specs.Writing.{writeNumber};
 ghost use Rattle.tsaghnobir.specs.Places.{placed};
-ghost use Rattle.tsaghnobir.specs.Reading.{ReadThrough};
+ghost use Rattle.tsaghnobir.specs.Reading.{ReadThrough, JobThrough};
 
 #[no_mangle]
 pub extern "C" fn tsb_write_record(
@@ -54,5 +55,34 @@ pub extern "C" fn tsb_read_record(
             refusal::ACCEPTED
         }
         ReadAnswer::Refused(number) => number,
+    }
+}
+
+#[no_mangle]
+pub extern "C" fn tsb_read_job(
+    bytes: &[u8],
+    out_knots: &mut [u16],
+    out_xs: &mut [i32],
+    out_ys: &mut [i32],
+    clamps: &mut [i32],
+    degree: &mut u32,
+    points: &mut usize,
+    clamp_count: &mut usize,
+) -> u32
+    ensures answer { λ r. ⌜ JobThrough (now (bytes .entry)) (now («out_knots» .entry)) (now («out_xs» .entry)) (now («out_ys» .entry)) (now (clamps .entry)) (now («out_knots» .exit)) (now («out_xs» .exit)) (now («out_ys» .exit)) (now (clamps .exit)) r (now (degree .entry)) (now (degree .exit)) (now (points .entry)) (now (points .exit)) (now («clamp_count» .entry)) (now («clamp_count» .exit)) ⌝ }
+{
+    let answer = job::read_job(bytes, out_knots, out_xs, out_ys, clamps);
+    match answer {
+        JobAnswer::Job {
+            degree: m,
+            points: count,
+            clamps: sides,
+        } => {
+            *degree = m;
+            *points = count;
+            *clamp_count = sides;
+            refusal::ACCEPTED
+        }
+        JobAnswer::Refused(number) => number,
     }
 }

@@ -5,6 +5,7 @@ mod curve;
 mod knots;
 mod spline_points;
 
+pub use bytes::tsb_read_job;
 pub use bytes::tsb_read_record;
 pub use bytes::tsb_write_record;
 pub use curve::tsb_carrying;

@@ -1,4 +1,5 @@
 -- `tsaghnobir::tsb_read_record` meets its contract: each arm is the answer that the wrapped call gave.
+use mathlib.Core.Path.{refl}
 use borrow.Author.Needs.{needs}
 use Rattle.tsaghnobir.proofs.bytes.tsb_read_record.Statement.{statement}
 use Rattle.tsaghnobir.proofs.bytes.tsb_read_record.Tie as tie
@@ -25,7 +26,7 @@ returns : tie.Need-returns
 returns c =
     let call = c .before .before .before .before .before .before .before .read-record in
     let arm = c .before .answer .given .1 in
-    record { answer = call .result; read = call .ensures; number = rw arm; degreePlace = rw arm; pointsPlace = rw arm }
+    record { answer = call .result; read = call .ensures; told = rw arm (refl, refl, refl) }
 
 same-length-4 : tie.Need-same-length-4
 same-length-4 c = search needs
@@ -40,7 +41,7 @@ returns-2 : tie.Need-returns-2
 returns-2 c =
     let call = c .before .before .before .before .before .before .before .read-record in
     let arm = c .before .answer2 .given .1 in
-    record { answer = call .result; read = call .ensures; number = rw arm; degreePlace = rw arm; pointsPlace = rw arm }
+    record { answer = call .result; read = call .ensures; told = rw arm (refl, refl, refl) }
 
 pub tsb-read-record-spec : {M : Type 1} → statement M
 tsb-read-record-spec =

@@ -1,0 +1,68 @@
+-- `tsaghnobir::tsb_read_job` meets its contract: each arm is the answer that the wrapped call gave.
+use mathlib.Core.Path.{refl}
+use borrow.Author.Needs.{needs}
+use Rattle.tsaghnobir.proofs.bytes.tsb_read_job.Statement.{statement}
+use Rattle.tsaghnobir.proofs.bytes.tsb_read_job.Tie as tie
+
+read-job-requires : tie.Need-read-job-requires
+read-job-requires c κs = search needs
+
+enum-known-answer : tie.Need-enum-known-answer
+enum-known-answer c = search needs
+
+enum-known-answer-2 : tie.Need-enum-known-answer-2
+enum-known-answer-2 c = search needs
+
+same-length : tie.Need-same-length
+same-length c = search needs
+
+same-length-2 : tie.Need-same-length-2
+same-length-2 c = search needs
+
+same-length-3 : tie.Need-same-length-3
+same-length-3 c = search needs
+
+same-length-4 : tie.Need-same-length-4
+same-length-4 c = search needs
+
+returns : tie.Need-returns
+returns c =
+    let call = c .before .before .before .before .before .before .before .before .read-job in
+    let arm = c .before .answer .given .1 in
+    record { answer = call .result; read = call .ensures; told = rw arm (refl, refl, refl, refl) }
+
+same-length-5 : tie.Need-same-length-5
+same-length-5 c = search needs
+
+same-length-6 : tie.Need-same-length-6
+same-length-6 c = search needs
+
+same-length-7 : tie.Need-same-length-7
+same-length-7 c = search needs
+
+same-length-8 : tie.Need-same-length-8
+same-length-8 c = search needs
+
+returns-2 : tie.Need-returns-2
+returns-2 c =
+    let call = c .before .before .before .before .before .before .before .before .read-job in
+    let arm = c .before .answer2 .given .1 in
+    record { answer = call .result; read = call .ensures; told = rw arm (refl, refl, refl, refl) }
+
+pub tsb-read-job-spec : {M : Type 1} → statement M
+tsb-read-job-spec =
+    tie.close
+    (tie.spec
+    read-job-requires
+    enum-known-answer
+    enum-known-answer-2
+    same-length
+    same-length-2
+    same-length-3
+    same-length-4
+    returns
+    same-length-5
+    same-length-6
+    same-length-7
+    same-length-8
+    returns-2)
