@@ -134,6 +134,21 @@ uint32_t tsb_insert(
     size_t *TSB_RESTRICT points);
 
 /*
+ * The same curve with the knot v once less: knots_len - 1 knots to out_knots, one point fewer than before to
+ * out_xs and out_ys, and the new number of points to *points. It is done exactly where some whole points within
+ * range, on the remaining knots, give all the old points when v is inserted; those points are the result.
+ * Refused by 1 to 7, then 12, then 13, then 15.
+ */
+uint32_t tsb_remove(
+    uint32_t degree, const uint16_t *knots, size_t knots_len,
+    const int32_t *xs, size_t xs_len, const int32_t *ys, size_t ys_len,
+    uint32_t v,
+    uint16_t *TSB_RESTRICT out_knots, size_t out_knots_len,
+    int32_t *TSB_RESTRICT out_xs, size_t out_xs_len,
+    int32_t *TSB_RESTRICT out_ys, size_t out_ys_len,
+    size_t *TSB_RESTRICT points);
+
+/*
  * A curve of degree 3 through spline points: at the parameter params[i] it passes through (px[i], py[i])
  * with the tangent (tx[i], ty[i]), in grid steps per unit of the parameter. With k + 1 spline points the
  * result has 3k + 1 points, whose number goes to *points, and 3k + 5 knots: each end value four times, each

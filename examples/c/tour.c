@@ -1,5 +1,5 @@
 /*
- * A tour of the library from C: the point on a curve, a knot inserted, spline points joined, the spans that a
+ * A tour of the library from C: the point on a curve, a knot inserted and removed, spline points joined, the spans that a
  * clamp asks for, a record written and read back, and some refusals.
  * Build and run: examples/c/build.sh run
  */
@@ -50,6 +50,17 @@ static void print_inserted(const struct curve *c, uint32_t v)
     uint32_t refusal = tsb_insert(GIVEN(*c), v, PLACES(result), &result.points);
     result.degree = c->degree;
     printf("knot %u inserted:", (unsigned)v);
+    if (refusal == TSB_OK)
+        print_points(&result);
+    else
+        printf(" refused %u\n", (unsigned)refusal);
+}
+
+static void print_removed(const struct curve *c, uint32_t v)
+{
+    uint32_t refusal = tsb_remove(GIVEN(*c), v, PLACES(result), &result.points);
+    result.degree = c->degree;
+    printf("knot %u removed:", (unsigned)v);
     if (refusal == TSB_OK)
         print_points(&result);
     else
@@ -148,6 +159,10 @@ int main(void)
     print_inserted(&b, 2);
     print_inserted(&result, 2);
     print_inserted(&b, 4);
+    print_removed(&b, 2);
+    print_removed(&b, 3);
+    b.xs[2] = 10;
+    print_removed(&b, 2);
 
     print_joined(12);
     print_joined(4);

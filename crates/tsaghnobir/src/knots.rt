@@ -1,11 +1,13 @@
 // Inserting and removing knots.
 use insert_knot::InsertAnswer;
+use remove_knot::RemoveAnswer;
 ghost use mathlib.Core.Path.{_≡_};
 ghost use Prim.Native.Nat.{_+_};
 ghost use lib.ListN.{length};
 ghost use Rattle.insertion.specs.Judged.{insertionNumber};
 ghost use Rattle.insert_knot.specs.Lists.{InsertedLists};
 ghost use Rattle.tsaghnobir.specs.Places.{placed};
+ghost use Rattle.tsaghnobir.specs.Removing.{RemovedThrough};
 
 #[no_mangle]
 pub extern "C" fn tsb_insert(
@@ -30,5 +32,29 @@ pub extern "C" fn tsb_insert(
             refusal::ACCEPTED
         }
         InsertAnswer::Refused(number) => number,
+    }
+}
+
+#[no_mangle]
+pub extern "C" fn tsb_remove(
+    degree: u32,
+    knots: &[u16],
+    xs: &[i32],
+    ys: &[i32],
+    v: u32,
+    out_knots: &mut [u16],
+    out_xs: &mut [i32],
+    out_ys: &mut [i32],
+    points: &mut usize,
+) -> u32
+    ensures answer { λ r. ⌜ RemovedThrough degree (now (knots .entry)) (now (xs .entry)) (now (ys .entry)) v (now («out_knots» .entry)) (now («out_xs» .entry)) (now («out_ys» .entry)) (now («out_knots» .exit)) (now («out_xs» .exit)) (now («out_ys» .exit)) r (now (points .entry)) (now (points .exit)) ⌝ }
+{
+    let answer = remove_knot::remove_knot(degree, knots, xs, ys, v, out_knots, out_xs, out_ys);
+    match answer {
+        RemoveAnswer::Removed(count) => {
+            *points = count;
+            refusal::ACCEPTED
+        }
+        RemoveAnswer::Refused(number) => number,
     }
 }

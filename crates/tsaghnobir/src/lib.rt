@@ -13,4 +13,5 @@ pub use curve::tsb_check;
 pub use curve::tsb_point;
 pub use curve::tsb_spans;
 pub use knots::tsb_insert;
+pub use knots::tsb_remove;
 pub use spline_points::tsb_join;
