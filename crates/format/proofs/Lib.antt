@@ -2,3 +2,4 @@
 pub mod EntryLaws
 pub mod InjectiveLaws
 pub mod SizeLaws
+pub mod Controls

@@ -1,3 +1,4 @@
 -- Laws of judging and reading a job.
 pub mod JobReadLaws
 pub mod JobLayoutLaws
+pub mod Controls

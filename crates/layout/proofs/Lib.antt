@@ -3,3 +3,4 @@ pub mod TakeLaws
 pub mod SplitLaws
 pub mod RecordLaws
 pub mod WholeLaws
+pub mod Controls

@@ -1,0 +1,41 @@
+-- Closed cases of judging: the leftmost fault and its place, in short bytes and in the record of curve A.
+use mathlib.Core.Path.{_≡_, refl}
+use mathlib.Core.List.{List, [], _∷_, _++_}
+use lib.ListN.{take}
+use Rattle.format.proofs.Controls.{bytesA}
+use Rattle.layout.specs.Judging.{lengthOk, fieldAt, recordLayout, wholeRecord}
+use Rattle.layout.specs.declared.Fault.the-variants.{Ended, Tag, Length, LeftOver}
+use Rattle.layout.specs.declared.Layout.the-variants.{Sound, Broken}
+
+-- the record of curve A
+whole-A : wholeRecord bytesA ≡ Sound 16 16 16
+unfolding wholeRecord recordLayout fieldAt lengthOk bytesA
+whole-A = refl
+
+-- one byte more, and one byte fewer
+left-over : wholeRecord (bytesA ++ (0 ∷ [])) ≡ Broken (LeftOver 61)
+unfolding wholeRecord recordLayout fieldAt lengthOk bytesA
+left-over = refl
+
+ended : wholeRecord (take 60 bytesA) ≡ Broken (Ended 60)
+unfolding wholeRecord recordLayout fieldAt lengthOk bytesA
+ended = refl
+
+-- nothing at all
+nothing : wholeRecord [] ≡ Broken (Ended 0)
+unfolding wholeRecord recordLayout fieldAt lengthOk
+nothing = refl
+
+-- a tag that does not belong there, a degree of two bytes
+wrong-tag : wholeRecord (1 ∷ 1 ∷ 0 ∷ 3 ∷ 9 ∷ []) ≡ Broken (Tag 4)
+unfolding wholeRecord recordLayout fieldAt lengthOk
+wrong-tag = refl
+
+wrong-length : wholeRecord (1 ∷ 2 ∷ 0 ∷ []) ≡ Broken (Length 1)
+unfolding wholeRecord recordLayout fieldAt lengthOk
+wrong-length = refl
+
+-- the end between two bytes of a length, though no length that begins so is right
+between : wholeRecord (1 ∷ 2 ∷ []) ≡ Broken (Ended 2)
+unfolding wholeRecord recordLayout fieldAt lengthOk
+between = refl
