@@ -1,10 +1,12 @@
--- A curve has at most as many non-empty spans as points.
+-- How many spans a curve can have.
 use mathlib.Core.Bool.{Bool, true, false, cond}
 use mathlib.Core.List.{List, _∷_}
 use Prim.Native.Nat.{ℕ, zero, suc, _-_, _≤_}
 use native.Mathlib.Omega.{arith}
+use lib.IntN.{ℤ}
 use lib.ListN.{length}
-use Rattle.span_walk.specs.SpansMet.{upFrom, keep, nonEmpty, spanCount}
+use Rattle.boxes.specs.declared.Rectangle.{Rectangle}
+use Rattle.span_walk.specs.SpansMet.{upFrom, keep, nonEmpty, spanCount, spansMet, metBy}
 
 -- no more is kept of a run than its numbers
 kept-most : (test : ℕ → Bool) (i count : ℕ) → length (keep test (upFrom i count)) ≤ count
@@ -16,6 +18,11 @@ kept-most test i (suc count) = by (test i) (kept-most test (suc i) count)
     by true h = omega arith
     by false h = omega arith
 
-pub spanCount-most : (m : ℕ) (ts : List ℕ) (count : ℕ) → spanCount m ts count ≤ count
+pub spanCount-most : (m : ℕ) (ts : List ℕ) (count : ℕ) → spanCount m ts count ≤ count - m
 unfolding spanCount
-spanCount-most m ts count = omega (arith, kept-most (nonEmpty ts) m (count - m))
+spanCount-most m ts count = kept-most (nonEmpty ts) m (count - m)
+
+-- and no more of them may meet a clamp
+pub met-most : (clamp : Rectangle) (m : ℕ) (ts : List ℕ) (xs ys : List ℤ) → length (metBy clamp m ts xs ys) ≤ length xs - m
+unfolding spansMet
+met-most clamp m ts xs ys = kept-most _ m (length xs - m)
