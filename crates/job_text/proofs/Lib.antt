@@ -1,0 +1,6 @@
+-- Why what the program writes is the text of its input.
+pub mod AcceptedLaws
+pub mod ClampLaws
+pub mod FrontLaws
+pub mod RoomLaws
+pub mod TextLaws
