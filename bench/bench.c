@@ -13,7 +13,7 @@
 #include "plain.h"
 #include "tsaghnobir.h"
 
-enum { ROUNDS = 300, DEGREE = 3, STEP = 6, PARAMETERS = 16, SIZES = 4 };
+enum { ROUNDS = 2000, DEGREE = 3, STEP = 6, PARAMETERS = 16, SIZES = 4 };
 
 enum call { CHECK, POINT, CARRYING, SPANS, INSERT, JOIN, WRITE, READ, CALLS };
 

@@ -14,6 +14,7 @@ uint32_t plain_check(CURVE);
 uint32_t plain_point(CURVE, uint32_t t, double *restrict x, double *restrict y);
 uint32_t plain_carrying(CURVE, uint32_t t, size_t *restrict first);
 uint32_t plain_insert(CURVE, uint32_t v, LISTS, size_t *restrict points);
+uint32_t plain_compact(CURVE, LISTS, size_t *restrict points, size_t *restrict removed);
 uint32_t plain_join(
     const uint16_t *params, size_t params_len, const int32_t *px, size_t px_len, const int32_t *py, size_t py_len,
     const int32_t *tx, size_t tx_len, const int32_t *ty, size_t ty_len, LISTS, size_t *restrict points);

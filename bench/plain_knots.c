@@ -1,4 +1,6 @@
-/* Inserting a knot, written plainly. */
+/* Inserting a knot and compaction, written plainly. */
+#include <string.h>
+
 #include "plain.h"
 #include "tsaghnobir.h"
 
@@ -63,5 +65,93 @@ uint32_t plain_insert(CURVE, uint32_t v, LISTS, size_t *restrict points)
     insert_points(knots, xs, xs_len, m, v, i, out_xs);
     insert_points(knots, ys, ys_len, m, v, i, out_ys);
     *points = xs_len + 1;
+    return TSB_OK;
+}
+
+/* A curve at work, in place. */
+struct work {
+    size_t m, points;
+    uint16_t knots[TSB_KNOTS_MOST];
+    int32_t xs[TSB_POINTS_MOST], ys[TSB_POINTS_MOST];
+};
+
+/* The knot k without the one at `last`. */
+static int64_t knot_without(const struct work *w, size_t last, size_t k)
+{
+    return w->knots[k < last ? k : k + 1];
+}
+
+/*
+ * The new points of one axis that stand between those of the left and those of the right, where the value that stands `times` times, the last time at
+ * `last`, goes once: from the left on, and the far side must agree. 0 where there are none that are whole and within range.
+ */
+static int solve(const struct work *w, const int32_t *ps, size_t last, size_t times, int32_t *fresh)
+{
+    size_t i = last - 1, far = i - (times - 1), m = w->m;
+    int64_t v = w->knots[last], before = ps[i - m];
+    for (size_t j = i - m + 1; j <= far; j++) {
+        int64_t low = knot_without(w, last, j), high = knot_without(w, last, j + m);
+        int64_t rest = (high - low) * ps[j] - (high - v) * before;
+        if (j == far)
+            return rest == (v - low) * ps[far + 1];
+        if (rest % (v - low) != 0)
+            return 0;
+        before = rest / (v - low);
+        if (before < -TSB_COORDINATE_MOST || before > TSB_COORDINATE_MOST)
+            return 0;
+        *fresh++ = (int32_t)before;
+    }
+    return 1;
+}
+
+static void take_out(struct work *w, int32_t *ps, size_t last, size_t times, const int32_t *fresh)
+{
+    size_t i = last - 1, far = i - (times - 1);
+    for (size_t j = i - w->m + 1; j < far; j++)
+        ps[j] = *fresh++;
+    memmove(ps + far, ps + far + 1, (w->points - far - 1) * sizeof *ps);
+}
+
+/* Removes the value that stands `times` times, the last time at `last`, once; 0 where that is refused. */
+static int remove_once(struct work *w, size_t last, size_t times)
+{
+    int32_t fresh_x[3], fresh_y[3];
+    if (!solve(w, w->xs, last, times, fresh_x) || !solve(w, w->ys, last, times, fresh_y))
+        return 0;
+    take_out(w, w->xs, last, times, fresh_x);
+    take_out(w, w->ys, last, times, fresh_y);
+    memmove(w->knots + last, w->knots + last + 1, (w->points + w->m - last) * sizeof *w->knots);
+    w->points--;
+    return 1;
+}
+
+uint32_t plain_compact(CURVE, LISTS, size_t *restrict points, size_t *restrict removed)
+{
+    uint32_t refusal = plain_check(degree, knots, knots_len, xs, xs_len, ys, ys_len);
+    if (refusal != TSB_OK)
+        return refusal;
+    struct work w;
+    w.m = degree;
+    w.points = xs_len;
+    memcpy(w.knots, knots, knots_len * sizeof *knots);
+    memcpy(w.xs, xs, xs_len * sizeof *xs);
+    memcpy(w.ys, ys, ys_len * sizeof *ys);
+    size_t at = w.m + 1;
+    while (at < w.points) {
+        size_t times = 1;
+        while (w.knots[at + times] == w.knots[at])
+            times++;
+        while (times > 0 && remove_once(&w, at + times - 1, times))
+            times--;
+        at += times;
+    }
+    size_t left = w.points + w.m + 1;
+    if (out_knots_len < left || out_xs_len < w.points || out_ys_len < w.points)
+        return TSB_ROOM;
+    memcpy(out_knots, w.knots, left * sizeof *knots);
+    memcpy(out_xs, w.xs, w.points * sizeof *xs);
+    memcpy(out_ys, w.ys, w.points * sizeof *ys);
+    *points = w.points;
+    *removed = xs_len - w.points;
     return TSB_OK;
 }
