@@ -1,4 +1,3 @@
 -- Laws of writing and reading a record.
-pub mod PutLaws
 pub mod WriteLaws
 pub mod ReadLaws

@@ -1,6 +1,5 @@
 // Writes a curve as a record, and reads one.
 mod getting;
-mod putting;
 
 use layout::Layout;
 ghost use mathlib.Core.Path.{_≡_};

@@ -35,7 +35,7 @@ fn put_coordinates_field(tag: u8, zs: &[i32], out: &mut [u8], at: usize)
 }
 
 // The whole record, at the front.
-pub(crate) fn put_record(degree: u32, knots: &[u16], xs: &[i32], ys: &[i32], out: &mut [u8])
+pub fn put_record(degree: u32, knots: &[u16], xs: &[i32], ys: &[i32], out: &mut [u8])
     requires { ⌜ (degree < 256) × (13 + 2 * length (now knots) + 4 * length (now xs) + 4 * length (now ys) ≤ length (now out)) ⌝ }
     ensures result { λ _. ⌜ now (out .exit)
         ≡ putAt (now (out .entry)) 0 (recordBytes form1 degree (now (knots .entry)) (now (xs .entry)) (now (ys .entry))) ⌝ }

@@ -1,4 +1,4 @@
--- `record::putting::put_record` meets its contract: four fields, each behind the one before.
+-- `putting::put_record` meets its contract: four fields, each behind the one before.
 use mathlib.Core.Path.{refl}
 use mathlib.Core.List.{[], _∷_}
 use Prim.Native.Nat.{_+_, _*_}
@@ -6,11 +6,11 @@ use lib.ListN.{length}
 use Rattle.fields.specs.Bytes.{fieldBytes, knotBytes, coordinateBytes}
 use Rattle.format.specs.Format.{degreeTag, knotsTag, xTag, yTag, recordBytes}
 use Rattle.format.proofs.SizeLaws.{length-knots, length-coordinates}
-use Rattle.record.proofs.PutLaws.{put-four}
+use Rattle.putting.proofs.PutLaws.{put-four}
 use native.Mathlib.Omega.{arith}
 use borrow.Author.Needs.{needs}
-use Rattle.record.proofs.putting.put_record.Statement.{statement}
-use Rattle.record.proofs.putting.put_record.Tie as tie
+use Rattle.putting.proofs.put_record.Statement.{statement}
+use Rattle.putting.proofs.put_record.Tie as tie
 
 mul-on-x : tie.Need-mul-on-x
 mul-on-x c = search needs

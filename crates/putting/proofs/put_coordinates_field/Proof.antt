@@ -1,12 +1,12 @@
--- `record::putting::put_coordinates_field` meets its contract: a head, and the coordinates behind it.
+-- `putting::put_coordinates_field` meets its contract: a head, and the coordinates behind it.
 use Prim.Native.Nat.{_*_}
 use lib.ListN.{length}
 use Rattle.fields.specs.Bytes.{coordinateBytes}
 use Rattle.format.proofs.SizeLaws.{length-coordinates}
-use Rattle.record.proofs.PutLaws.{put-field}
+use Rattle.putting.proofs.PutLaws.{put-field}
 use borrow.Author.Needs.{needs}
-use Rattle.record.proofs.putting.put_coordinates_field.Statement.{statement}
-use Rattle.record.proofs.putting.put_coordinates_field.Tie as tie
+use Rattle.putting.proofs.put_coordinates_field.Statement.{statement}
+use Rattle.putting.proofs.put_coordinates_field.Tie as tie
 
 mul-put-head : tie.Need-mul-put-head
 mul-put-head c = search needs

@@ -1,14 +1,14 @@
--- `record::putting::put_degree` meets its contract: a head, and one byte behind it.
+-- `putting::put_degree` meets its contract: a head, and one byte behind it.
 use mathlib.Core.Path.{refl}
 use mathlib.Core.List.{[], _∷_}
 use lib.ListN.{set}
 use lib.Seq.{sets-eq}
 use Rattle.format.specs.Format.{degreeTag}
-use Rattle.record.proofs.PutLaws.{put-field}
+use Rattle.putting.proofs.PutLaws.{put-field}
 use native.Mathlib.Omega.{arith}
 use borrow.Author.Needs.{needs}
-use Rattle.record.proofs.putting.put_degree.Statement.{statement}
-use Rattle.record.proofs.putting.put_degree.Tie as tie
+use Rattle.putting.proofs.put_degree.Statement.{statement}
+use Rattle.putting.proofs.put_degree.Tie as tie
 
 put-head-requires : tie.Need-put-head-requires
 put-head-requires c κs = search needs

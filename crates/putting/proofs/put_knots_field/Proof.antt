@@ -1,13 +1,13 @@
--- `record::putting::put_knots_field` meets its contract: a head, and the knots behind it.
+-- `putting::put_knots_field` meets its contract: a head, and the knots behind it.
 use Prim.Native.Nat.{_*_}
 use lib.ListN.{length}
 use Rattle.fields.specs.Bytes.{knotBytes}
 use Rattle.format.specs.Format.{knotsTag}
 use Rattle.format.proofs.SizeLaws.{length-knots}
-use Rattle.record.proofs.PutLaws.{put-field}
+use Rattle.putting.proofs.PutLaws.{put-field}
 use borrow.Author.Needs.{needs}
-use Rattle.record.proofs.putting.put_knots_field.Statement.{statement}
-use Rattle.record.proofs.putting.put_knots_field.Tie as tie
+use Rattle.putting.proofs.put_knots_field.Statement.{statement}
+use Rattle.putting.proofs.put_knots_field.Tie as tie
 
 mul-put-head : tie.Need-mul-put-head
 mul-put-head c = search needs

@@ -1,0 +1,2 @@
+-- Laws of parts put one behind the other.
+pub mod PutLaws
