@@ -1,10 +1,15 @@
-"""Runs the built clampcheck: directly on x86-64, under the kit's emulator on any other machine."""
+#!/usr/bin/env python3
+"""Runs the built clampcheck: directly on x86-64, under the kit's emulator on any other machine.
+
+    python3 tools/program.py sample.job      prints what clampcheck says of the job
+"""
 
 import os
 import pathlib
 import platform
 import shutil
 import subprocess
+import sys
 
 TOP = pathlib.Path(__file__).resolve().parents[1]
 PROGRAM = TOP / "target" / "bin" / "clampcheck"
@@ -38,3 +43,19 @@ def clampcheck(job):
     """What clampcheck prints on a job's bytes."""
     ended = subprocess.run(command(), input=job, stdout=subprocess.PIPE, check=True, timeout=60)
     return ended.stdout.decode("ascii")
+
+
+def main(arguments):
+    if len(arguments) != 1:
+        sys.exit(__doc__)
+    with open(arguments[0], "rb") as data:
+        sys.stdout.write(clampcheck(data.read()))
+
+
+if __name__ == "__main__":
+    try:
+        main(sys.argv[1:])
+    except NotBuilt as fault:
+        sys.exit(str(fault))
+    except OSError as fault:
+        sys.exit("%s: %s" % (fault.filename, fault.strerror))

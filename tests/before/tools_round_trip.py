@@ -8,6 +8,7 @@ import sys
 import tempfile
 
 TOP = pathlib.Path(__file__).resolve().parents[2]
+sys.dont_write_bytecode = True
 sys.path[:0] = [str(TOP / "tools"), str(TOP / "tests")]
 
 import draw  # noqa: E402
@@ -90,6 +91,11 @@ def examples():
         red, green = (picture.count('stroke="%s" stroke-width="2.5"' % colour) for colour in (draw.RED, draw.GREEN))
         met = {line.split()[1] for line in output.splitlines() if "may meet" in line}
         assert (red, green) == (len(met), output.count("clear")), "%s is drawn in the wrong colours" % text.name
+        kept = text.with_suffix(".svg")
+        assert not kept.exists() or kept.read_text() == picture, "%s is not what tools/draw.py makes" % kept.name
+    shown = (TOP / "README.md").read_text().replace("    ", "")
+    sample = clampcheck_text((TOP / "examples" / "sign.job").read_bytes())[1]
+    assert sample in shown, "README.md does not show what clampcheck says of examples/sign.job"
 
 
 def commands():
