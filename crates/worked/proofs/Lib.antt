@@ -1,2 +1,3 @@
 -- The theorem over the worked examples.
+pub mod RemovalWorked
 pub mod WorkedLaws
