@@ -23,10 +23,13 @@ WIRED = (  # the calls that the program of crates/vectors runs
     "point_at",
     "carrying",
     "insert_knot",
+    "remove_knot",
     "join_through_points",
     "list_spans_met",
     "write_record",
     "read_record",
+    "read_job",
+    "clampcheck_text",
 )
 
 LEAST_CASES = 2000

@@ -16,6 +16,8 @@ pub fn answer(body: &[u8], out: &mut [u8]) -> usize {
     match call {
         7 => join_cases::join(body, out),
         10 => record_cases::read(body, out),
+        11 => job_cases::read(body, out),
+        12 => text_cases::told(body, out),
         _ => on_curve::answer(body, out),
     }
 }

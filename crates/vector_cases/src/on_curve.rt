@@ -28,7 +28,8 @@ fn run<'a>(
             let axis = number_at(body, at + 4);
             curve_cases::carried(degree, knots, xs, ys, t, axis, out)
         }
-        4 => knot_cases::insert(degree, knots, xs, ys, body, at, out),
+        4 => insert_cases::insert(degree, knots, xs, ys, body, at, out),
+        5 => remove_cases::remove(degree, knots, xs, ys, body, at, out),
         8 => curve_cases::spans(degree, knots, xs, ys, body, at, out),
         9 => record_cases::write(degree, knots, xs, ys, body, at, out),
         _ => 0,

@@ -1,0 +1,93 @@
+// Cases of removing a knot: the value, then three capacities.
+use case_bytes::lend_coordinates;
+use case_bytes::lend_knots;
+use case_bytes::number_at;
+use case_bytes::put_count;
+use case_bytes::put_lists;
+use case_bytes::put_number;
+use remove_knot::RemoveAnswer;
+
+fn tell(answer: RemoveAnswer, out: &mut [u8]) -> usize {
+    match answer {
+        RemoveAnswer::Removed(points) => {
+            let numbered = put_number(out, 0, 0);
+            put_count(out, numbered, points)
+        }
+        RemoveAnswer::Refused(number) => put_number(out, 0, number),
+    }
+}
+
+fn call(
+    degree: u32,
+    knots: &[u16],
+    xs: &[i32],
+    ys: &[i32],
+    v: u32,
+    new_knots: &mut [u16],
+    new_xs: &mut [i32],
+    new_ys: &mut [i32],
+    out: &mut [u8],
+) -> usize {
+    let answer = remove_knot::remove_knot(degree, knots, xs, ys, v, new_knots, new_xs, new_ys);
+    let told = tell(answer, out);
+    put_lists(out, told, new_knots, new_xs, new_ys)
+}
+
+fn with_rooms(
+    degree: u32,
+    knots: &[u16],
+    xs: &[i32],
+    ys: &[i32],
+    body: &[u8],
+    at: usize,
+    new_knots: &mut [u16],
+    new_xs: &mut [i32],
+    new_ys: &mut [i32],
+    out: &mut [u8],
+) -> usize {
+    if case_bytes::MOST_BYTES < at {
+        return 0;
+    }
+    let v = number_at(body, at);
+    let knot_places = lend_knots(body, at + 4, new_knots);
+    let x_places = lend_coordinates(body, at + 8, new_xs);
+    let y_places = lend_coordinates(body, at + 12, new_ys);
+    call(
+        degree,
+        knots,
+        xs,
+        ys,
+        v,
+        &mut new_knots[..knot_places],
+        &mut new_xs[..x_places],
+        &mut new_ys[..y_places],
+        out,
+    )
+}
+
+// What stands at `at` of the case, for a curve that was read.
+pub fn remove(
+    degree: u32,
+    knots: &[u16],
+    xs: &[i32],
+    ys: &[i32],
+    body: &[u8],
+    at: usize,
+    out: &mut [u8],
+) -> usize {
+    let mut new_knots = case_bytes::knots();
+    let mut new_xs = case_bytes::coordinates();
+    let mut new_ys = case_bytes::coordinates();
+    with_rooms(
+        degree,
+        knots,
+        xs,
+        ys,
+        body,
+        at,
+        &mut new_knots,
+        &mut new_xs,
+        &mut new_ys,
+        out,
+    )
+}
