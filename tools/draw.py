@@ -16,7 +16,7 @@ import job as jobs
 import program
 
 WIDE = 1000
-STEPS = 32
+STEPS = 64
 GREEN, RED, INK, GREY = "#2e8b57", "#d62828", "#1d3557", "#9aa5b1"
 
 
