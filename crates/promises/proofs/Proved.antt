@@ -13,7 +13,11 @@ use Rattle.spans_met_exact.proofs.CrossingLaws.{every-crossing-reported}
 use Rattle.knots_exact.proofs.InsertionLaws.{insert-keeps-curve}
 use Rattle.knots_exact.proofs.RemovalLaws.{remove-keeps-curve}
 use Rattle.joining_exact.proofs.JoinedLaws.{join-passes, join-is-hermite}
-use Rattle.promises.specs.Promises.{CheckGivesLowestRow, EveryParameterHasItsSpan, ComputedPointNearExact, CrossingsReported, InsertionKeepsCurve, RemovalKeepsCurve, JoinedCurvePasses, JoinedCurveIsHermite}
+use Rattle.remove_knot.proofs.OutcomeLaws as Removal
+use Rattle.round_trip.proofs.RecordTrip.{written-reads-back, read-writes-back, one-record-for-each-curve, records-short, sixteen-exactly, reading-determined}
+use Rattle.round_trip.proofs.JobTrip.{job-reads-back, jobs-short, job-sixteen-exactly, job-reading-determined}
+use Rattle.worked.proofs.WorkedLaws.{worked-hold}
+use Rattle.promises.specs.Promises.{CheckGivesLowestRow, EveryParameterHasItsSpan, ComputedPointNearExact, CrossingsReported, InsertionKeepsCurve, RemovalKeepsCurve, RemovalDetermined, JoinedCurvePasses, JoinedCurveIsHermite, RecordsGoRound, ReadingIsExact, JobsReadBack, WorkedCasesHold}
 
 pub check-gives-lowest-row : CheckGivesLowestRow
 check-gives-lowest-row m ts xs ys = (check-answers m ts xs ys, check-answers-none m ts xs ys)
@@ -45,3 +49,18 @@ joined-curve-passes = join-passes
 
 pub joined-curve-is-hermite : JoinedCurveIsHermite
 joined-curve-is-hermite = join-is-hermite
+
+pub removal-determined : RemovalDetermined
+removal-determined m ts xs ys v ks kx ky = Removal.removal-determined m ts xs ys v ks kx ky
+
+pub records-go-round : RecordsGoRound
+records-go-round = (written-reads-back, read-writes-back, one-record-for-each-curve, records-short)
+
+pub reading-is-exact : ReadingIsExact
+reading-is-exact = (sixteen-exactly, reading-determined, job-sixteen-exactly, job-reading-determined)
+
+pub jobs-read-back : JobsReadBack
+jobs-read-back = (job-reads-back, jobs-short)
+
+pub worked-cases-hold : WorkedCasesHold
+worked-cases-hold = worked-hold

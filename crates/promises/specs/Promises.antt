@@ -12,6 +12,11 @@ use Rattle.checked.specs.Sentences.{RowApplies}
 use Rattle.span.specs.Span.{IsSpan, spanOf, inDomain}
 use Rattle.point_at_exact.specs.PointNear.{PointNearExact}
 use Rattle.spans_met_exact.specs.Crossing.{EveryCrossingReported}
+use Rattle.remove_knot.specs.declared.RemoveAnswer.{RemoveAnswer}
+use Rattle.remove_knot.specs.Outcome.{RemovalOutcome}
+use Rattle.round_trip.specs.RoundTrip as Trip
+use Rattle.worked.specs.Case.{AllHold}
+use Rattle.worked.specs.Worked.{cases}
 use Rattle.joining_exact.specs.JoinedCurve.{JoinPasses, JoinIsHermite}
 use Rattle.knots_exact.specs.SameCurve.{InsertKeepsCurve, RemoveKeepsCurve}
 
@@ -47,6 +52,13 @@ InsertionKeepsCurve = InsertKeepsCurve
 abbrev pub RemovalKeepsCurve : Type 0
 RemovalKeepsCurve = RemoveKeepsCurve
 
+-- "Inserting and removing a knot": the cases of removal's contract leave no choice: two outcomes that it permits for one input are the same
+abbrev pub RemovalDetermined : Type 0
+RemovalDetermined =
+    (m : ℕ) (ts : List ℕ) (xs ys : List ℤ) (v : ℕ) (ks : List ℕ) (kx ky : List ℤ) (a b : RemoveAnswer) (k l : List ℕ) (x y u w : List ℤ)
+    → RemovalOutcome m ts xs ys v ks kx ky a k x y → RemovalOutcome m ts xs ys v ks kx ky b l u w
+    → (a ≡ b) × (k ≡ l) × (x ≡ u) × (y ≡ w)
+
 -- "Joining spline points": a joined curve passes the check
 abbrev pub JoinedCurvePasses : Type 0
 JoinedCurvePasses = JoinPasses
@@ -54,3 +66,20 @@ JoinedCurvePasses = JoinPasses
 -- "Joining spline points": its exact curve is the Hermite cubic at every fraction of every interval, on both axes
 abbrev pub JoinedCurveIsHermite : Type 0
 JoinedCurveIsHermite = JoinIsHermite
+
+-- "The record on disk": reading what was written gives the curve back, writing what was read gives the bytes back, bytes that read to one
+-- curve are equal, and a record has at most 10,261 bytes
+abbrev pub RecordsGoRound : Type 0
+RecordsGoRound = Trip.WrittenReadsBack × Trip.ReadWritesBack × Trip.OneRecordForEachCurve × Trip.RecordsShort
+
+-- "The record on disk": a record, or a job, is refused 16 exactly where the bytes are no lists' record, or job; reading has one outcome
+abbrev pub ReadingIsExact : Type 0
+ReadingIsExact = Trip.SixteenExactly × Trip.ReadingDetermined × Trip.JobSixteenExactly × Trip.JobReadingDetermined
+
+-- "The record on disk": reading the job of some lists reads these lists, and a job has at most 11,477 bytes
+abbrev pub JobsReadBack : Type 0
+JobsReadBack = Trip.JobReadsBack × Trip.JobsShort
+
+-- "Worked by hand": every worked case holds of the calls' own answers
+abbrev pub WorkedCasesHold : Type 0
+WorkedCasesHold = AllHold cases
