@@ -23,6 +23,8 @@ def declared(crate):
         else:
             continue
         names.update(re.findall(pattern, path.read_text(), re.M))
+        if path.suffix == ".antt":
+            names.update(re.findall(rf"^\s*{MARKS}(?:data|record) (\S+)", path.read_text(), re.M))
         if path.suffix == ".rt":
             names.update(re.findall(r"\bensures (\w+) \{", path.read_text()))
     return names
