@@ -17,6 +17,7 @@ import program
 
 WIDE = 1000
 STEPS = 64
+MOST_NAMED = 8
 GREEN, RED, INK, GREY = "#2e8b57", "#d62828", "#1d3557", "#9aa5b1"
 
 
@@ -131,7 +132,9 @@ def draw(job, output):
         x, y = sheet.at(((clamp[0] + clamp[1]) / 2, (clamp[2] + clamp[3]) / 2))
         sheet.text(x, y + 8, str(number), fill="black", font_size="22", font_weight="bold", text_anchor="middle")
     for place, number in enumerate(sorted(listed)):
-        met = ", ".join("%d..%d" % span for span in listed[number])
+        met = ", ".join("%d..%d" % span for span in listed[number][:MOST_NAMED])
+        if len(listed[number]) > MOST_NAMED:
+            met += " and %d more" % (len(listed[number]) - MOST_NAMED)
         words = "clamp %d may meet %s" % (number, met) if met else "clamp %d clear" % number
         sheet.text(60, sheet.high + 24 * place, words, fill=RED if met else GREEN, font_size="17")
     return sheet.svg(24 * len(listed) + 20)

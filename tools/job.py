@@ -158,7 +158,7 @@ def write_text(job):
 
 def main(arguments):
     if len(arguments) == 3 and arguments[0] == "make":
-        with open(arguments[1], encoding="utf-8") as text:
+        with open(arguments[1], encoding="utf-8-sig") as text:
             job = read_text(text.read())
         with open(arguments[2], "wb") as out:
             out.write(write_job(job))
