@@ -4,3 +4,4 @@ pub mod DecimalLaws
 pub mod LengthLaws
 pub mod LinesLaws
 pub mod PutLaws
+pub mod ValueLaws
