@@ -17,7 +17,9 @@ use Rattle.remove_knot.proofs.OutcomeLaws as Removal
 use Rattle.round_trip.proofs.RecordTrip.{written-reads-back, read-writes-back, one-record-for-each-curve, records-short, sixteen-exactly, reading-determined}
 use Rattle.round_trip.proofs.JobTrip.{job-reads-back, jobs-short, job-sixteen-exactly, job-reading-determined}
 use Rattle.worked.proofs.WorkedLaws.{worked-hold}
-use Rattle.promises.specs.Promises.{CheckGivesLowestRow, EveryParameterHasItsSpan, ComputedPointNearExact, CrossingsReported, InsertionKeepsCurve, RemovalKeepsCurve, RemovalDetermined, JoinedCurvePasses, JoinedCurveIsHermite, RecordsGoRound, ReadingIsExact, JobsReadBack, WorkedCasesHold}
+use Rattle.job_text.proofs.TextLaws.{written-is-text}
+use Rattle.job_text.proofs.UniqueLaws.{text-unique}
+use Rattle.promises.specs.Promises.{CheckGivesLowestRow, EveryParameterHasItsSpan, ComputedPointNearExact, CrossingsReported, InsertionKeepsCurve, RemovalKeepsCurve, RemovalDetermined, JoinedCurvePasses, JoinedCurveIsHermite, RecordsGoRound, ReadingIsExact, JobsReadBack, ProgramWritesItsText, WorkedCasesHold}
 
 pub check-gives-lowest-row : CheckGivesLowestRow
 check-gives-lowest-row m ts xs ys = (check-answers m ts xs ys, check-answers-none m ts xs ys)
@@ -64,3 +66,10 @@ jobs-read-back = (job-reads-back, jobs-short)
 
 pub worked-cases-hold : WorkedCasesHold
 worked-cases-hold = worked-hold
+
+pub program-writes-its-text : ProgramWritesItsText
+program-writes-its-text = (
+  λ bytes knots across up around r knots₁ across₁ up₁ around₁ a b c d read.
+      written-is-text bytes knots across up around r knots₁ across₁ up₁ around₁ (record { onKnots = a; onX = b; onY = c; onClamps = d }) read,
+  text-unique,
+)

@@ -15,6 +15,10 @@ use Rattle.spans_met_exact.specs.Crossing.{EveryCrossingReported}
 use Rattle.remove_knot.specs.declared.RemoveAnswer.{RemoveAnswer}
 use Rattle.remove_knot.specs.Outcome.{RemovalOutcome}
 use Rattle.round_trip.specs.RoundTrip as Trip
+use Rattle.job.specs.declared.JobAnswer.{JobAnswer}
+use Rattle.job.specs.JobReading.{JobRead}
+use Rattle.job_text.specs.Text.{TextOf}
+use Rattle.job_text.specs.Written.{knotPlaces, coordinatePlaces, sidePlaces, written}
 use Rattle.worked.specs.Case.{AllHold}
 use Rattle.worked.specs.Worked.{cases}
 use Rattle.joining_exact.specs.JoinedCurve.{JoinPasses, JoinIsHermite}
@@ -79,6 +83,14 @@ ReadingIsExact = Trip.SixteenExactly × Trip.ReadingDetermined × Trip.JobSixtee
 -- "The record on disk": reading the job of some lists reads these lists, and a job has at most 11,477 bytes
 abbrev pub JobsReadBack : Type 0
 JobsReadBack = Trip.JobReadsBack × Trip.JobsShort
+
+-- "Worked by hand": for any bytes, what `clampcheck` writes after reading them into its own places is their text, and bytes have one text
+abbrev pub ProgramWritesItsText : Type 0
+ProgramWritesItsText =
+    ((bytes knots : List ℕ) (across up around : List ℤ) (r : JobAnswer) (knots₁ : List ℕ) (across₁ up₁ around₁ : List ℤ)
+    → length knots ≡ knotPlaces → length across ≡ coordinatePlaces → length up ≡ coordinatePlaces → length around ≡ sidePlaces
+    → JobRead bytes knots across up around r knots₁ across₁ up₁ around₁ → TextOf bytes (written r knots₁ across₁ up₁ around₁))
+    × ((bytes a b : List ℕ) → TextOf bytes a → TextOf bytes b → a ≡ b)
 
 -- "Worked by hand": every worked case holds of the calls' own answers
 abbrev pub WorkedCasesHold : Type 0
