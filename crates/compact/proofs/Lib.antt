@@ -1,0 +1,2 @@
+-- Laws of the compaction call.
+pub mod OutcomeLaws

@@ -1,0 +1,2 @@
+-- The contract of compacting a curve.
+pub mod Outcome

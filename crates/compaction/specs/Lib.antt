@@ -1,0 +1,3 @@
+-- Compaction: one pass of removals, and curves in working lists.
+pub mod Compaction
+pub mod Work
