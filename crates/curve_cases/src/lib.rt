@@ -1,12 +1,9 @@
-// Cases of the calls that tell of a curve: the check, the point, the carrying coordinates, and the spans that may meet a clamp.
-mod listing;
-
+// Cases of the calls that tell of a curve: the check, the point and the carrying coordinates.
+use answer_bytes::put_coordinates;
+use answer_bytes::put_count;
+use answer_bytes::put_float;
+use answer_bytes::put_number;
 use carrying::Axis;
-use case_bytes::put_coordinates;
-use case_bytes::put_count;
-use case_bytes::put_float;
-use case_bytes::put_number;
-pub use listing::spans;
 use point_at::PointAnswer;
 
 pub fn check(degree: u32, knots: &[u16], xs: &[i32], ys: &[i32], out: &mut [u8]) -> usize {

@@ -1,10 +1,10 @@
 // Cases of inserting a knot: the value, then three capacities.
+use answer_bytes::put_count;
+use answer_bytes::put_lists;
+use answer_bytes::put_number;
 use case_bytes::lend_coordinates;
 use case_bytes::lend_knots;
 use case_bytes::number_at;
-use case_bytes::put_count;
-use case_bytes::put_lists;
-use case_bytes::put_number;
 use insert_knot::InsertAnswer;
 
 fn tell(answer: InsertAnswer, out: &mut [u8]) -> usize {

@@ -1,11 +1,11 @@
 // Cases of reading a job: its bytes, then four capacities, the last for the clamps' sides.
+use answer_bytes::put_coordinates;
+use answer_bytes::put_count;
+use answer_bytes::put_lists;
+use answer_bytes::put_number;
 use case_bytes::bytes_end;
 use case_bytes::lend_coordinates;
 use case_bytes::lend_knots;
-use case_bytes::put_coordinates;
-use case_bytes::put_count;
-use case_bytes::put_lists;
-use case_bytes::put_number;
 use job::JobAnswer;
 
 fn tell(answer: JobAnswer, out: &mut [u8]) -> usize {

@@ -1,9 +1,9 @@
 // Cases of joining spline points: five lists, then three capacities.
+use answer_bytes::put_count;
+use answer_bytes::put_lists;
+use answer_bytes::put_number;
 use case_bytes::lend_coordinates;
 use case_bytes::lend_knots;
-use case_bytes::put_count;
-use case_bytes::put_lists;
-use case_bytes::put_number;
 use case_bytes::take_coordinates;
 use case_bytes::take_knots;
 use joining::JoinAnswer;

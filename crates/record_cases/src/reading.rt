@@ -1,10 +1,10 @@
 // Cases of reading a record: its bytes, then three capacities.
+use answer_bytes::put_count;
+use answer_bytes::put_lists;
+use answer_bytes::put_number;
 use case_bytes::bytes_end;
 use case_bytes::lend_coordinates;
 use case_bytes::lend_knots;
-use case_bytes::put_count;
-use case_bytes::put_lists;
-use case_bytes::put_number;
 use record::ReadAnswer;
 
 fn tell(answer: ReadAnswer, out: &mut [u8]) -> usize {

@@ -1,8 +1,8 @@
 // Cases of writing a record: one capacity.
+use answer_bytes::put_bytes;
+use answer_bytes::put_count;
+use answer_bytes::put_number;
 use case_bytes::lend_bytes;
-use case_bytes::put_bytes;
-use case_bytes::put_count;
-use case_bytes::put_number;
 use record::WriteAnswer;
 
 fn tell(answer: WriteAnswer, out: &mut [u8]) -> usize {

@@ -1,10 +1,10 @@
 // Cases of removing a knot: the value, then three capacities.
+use answer_bytes::put_count;
+use answer_bytes::put_lists;
+use answer_bytes::put_number;
 use case_bytes::lend_coordinates;
 use case_bytes::lend_knots;
 use case_bytes::number_at;
-use case_bytes::put_count;
-use case_bytes::put_lists;
-use case_bytes::put_number;
 use remove_knot::RemoveAnswer;
 
 fn tell(answer: RemoveAnswer, out: &mut [u8]) -> usize {

@@ -33,7 +33,7 @@ fn on_bytes(
 ) -> usize {
     let answer = job::read_job(bytes, knots, xs, ys, sides);
     let at = on_answer(answer, knots, xs, ys, sides, out);
-    case_bytes::put_bytes(out, at, b"\x00")
+    answer_bytes::put_bytes(out, at, b"\x00")
 }
 
 fn with_rooms(bytes: &[u8], out: &mut [u8]) -> usize {

@@ -1,6 +1,6 @@
 // The number of refusal and behind it the lines of the text, part by part as the program writes them.
+use answer_bytes::put_number;
 use case_bytes::MOST_BYTES;
-use case_bytes::put_number;
 
 // The place behind n bytes that were put at `at`.
 fn behind(at: usize, n: usize) -> usize {

@@ -1,11 +1,11 @@
--- `case_bytes::writing::put_float` is safe: a float that equals itself is no NaN, so its bits are defined.
+-- `answer_bytes::put_float` is safe: a float that equals itself is no NaN, so its bits are defined.
 use borrow.Author.Needs.{needs}
 use mathlib.Core.Path.{_≡_}
 use mathlib.Core.Bool.{false, not, true≢false}
 use lib.Dec.{T}
 use lib.Ieee.{Float, nan, inf, fin, ne, isNan}
-use Rattle.case_bytes.proofs.writing.put_float.Statement.{statement}
-use Rattle.case_bytes.proofs.writing.put_float.Tie as tie
+use Rattle.answer_bytes.proofs.put_float.Statement.{statement}
+use Rattle.answer_bytes.proofs.put_float.Tie as tie
 
 no-nan : (x : Float) → ne x x ≡ false → T (not (isNan x))
 unfolding ne isNan

@@ -1,11 +1,11 @@
--- `case_bytes::writing::put_bytes` is safe and ends; the room keeps its length.
+-- `answer_bytes::put_bytes` is safe and ends; the room keeps its length.
 use borrow.Author.Needs.{needs}
 use native.Mathlib.Omega.{arith}
 use mathlib.Core.Path.{_≡_, refl}
 use Prim.Native.Nat.{_-_}
 use lib.ListN.{length, length-set}
-use Rattle.case_bytes.proofs.writing.put_bytes.Statement.{statement}
-use Rattle.case_bytes.proofs.writing.put_bytes.Tie as tie
+use Rattle.answer_bytes.proofs.put_bytes.Statement.{statement}
+use Rattle.answer_bytes.proofs.put_bytes.Tie as tie
 
 abbrev Inv-loop : tie.InvT-loop
 Inv-loop out₀ at bytes next k₀ out k = length out ≡ length out₀

@@ -1,10 +1,10 @@
 // Cases of the list of spans: the clamp, then two capacities.
+use answer_bytes::put_count;
+use answer_bytes::put_knots;
+use answer_bytes::put_number;
 use boxes::Rectangle;
 use case_bytes::coordinate_at;
 use case_bytes::lend_knots;
-use case_bytes::put_count;
-use case_bytes::put_knots;
-use case_bytes::put_number;
 use spans_met::SpansAnswer;
 
 fn tell(answer: SpansAnswer, out: &mut [u8]) -> usize {
