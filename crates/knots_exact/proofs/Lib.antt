@@ -4,3 +4,4 @@ pub mod InsertedLaws
 pub mod InsertionLaws
 pub mod SameLaws
 pub mod RemovalLaws
+pub mod CompactionLaws

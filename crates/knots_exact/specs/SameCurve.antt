@@ -11,7 +11,9 @@ use Rattle.span.specs.Span.{inDomain}
 use Rattle.refusal.specs.Numbers.{accepted}
 use Rattle.insertion.specs.Insertion.{insertedKnots, insertedPoints}
 use Rattle.insertion.specs.Judged.{insertionNumber}
+use Rattle.grid.specs.Check.{Passes}
 use Rattle.removal.specs.Removal.{Reinserts}
+use Rattle.compaction.specs.Compaction.{Curve, CompactsTo}
 
 -- knots ts and coordinates ps on one axis against knots us and coordinates qs: the domain is the same, and so is the exact coordinate
 -- at every fraction p/q of the domain
@@ -36,3 +38,9 @@ InsertKeepsCurve =
 abbrev pub RemoveKeepsCurve : Type 0
 RemoveKeepsCurve =
     (m v : ℕ) (ks : List ℕ) (px py : List ℤ) (ts : List ℕ) (xs ys : List ℤ) → Reinserts m v ks px py ts xs ys → SameCurve m ts xs ys ks px py
+
+-- whenever a curve that passes the check compacts to another, that one is the old curve
+abbrev pub CompactKeepsCurve : Type 0
+CompactKeepsCurve =
+    (m : ℕ) (c d : Curve) → Passes m (c .knots) (c .xs) (c .ys) → CompactsTo m c d
+    → SameCurve m (c .knots) (c .xs) (c .ys) (d .knots) (d .xs) (d .ys)

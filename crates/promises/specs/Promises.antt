@@ -14,6 +14,9 @@ use Rattle.point_at_exact.specs.PointNear.{PointNearExact}
 use Rattle.spans_met_exact.specs.Crossing.{EveryCrossingReported}
 use Rattle.remove_knot.specs.declared.RemoveAnswer.{RemoveAnswer}
 use Rattle.remove_knot.specs.Outcome.{RemovalOutcome}
+use Rattle.compaction.specs.Compaction.{Curve}
+use Rattle.compact.specs.declared.CompactAnswer.{CompactAnswer}
+use Rattle.compact.specs.Outcome.{CompactOutcome}
 use Rattle.round_trip.specs.RoundTrip as Trip
 use Rattle.job.specs.declared.JobAnswer.{JobAnswer}
 use Rattle.job.specs.JobReading.{JobRead}
@@ -22,7 +25,7 @@ use Rattle.job_text.specs.Written.{knotPlaces, coordinatePlaces, sidePlaces, wr
 use Rattle.worked.specs.Case.{AllHold}
 use Rattle.worked.specs.Worked.{cases}
 use Rattle.joining_exact.specs.JoinedCurve.{JoinPasses, JoinIsHermite}
-use Rattle.knots_exact.specs.SameCurve.{InsertKeepsCurve, RemoveKeepsCurve}
+use Rattle.knots_exact.specs.SameCurve.{InsertKeepsCurve, RemoveKeepsCurve, CompactKeepsCurve}
 
 -- "Numbers of refusal": the check answers n exactly when row n applies and no lower row does, and 0 exactly when no row does
 abbrev pub CheckGivesLowestRow : Type 0
@@ -62,6 +65,15 @@ RemovalDetermined =
     (m : ℕ) (ts : List ℕ) (xs ys : List ℤ) (v : ℕ) (ks : List ℕ) (kx ky : List ℤ) (a b : RemoveAnswer) (k l : List ℕ) (x y u w : List ℤ)
     → RemovalOutcome m ts xs ys v ks kx ky a k x y → RemovalOutcome m ts xs ys v ks kx ky b l u w
     → (a ≡ b) × (k ≡ l) × (x ≡ u) × (y ≡ w)
+
+-- "Inserting and removing a knot": compacting keeps the curve too, and has one outcome
+abbrev pub CompactionKeepsCurve : Type 0
+CompactionKeepsCurve = CompactKeepsCurve
+
+abbrev pub CompactionDetermined : Type 0
+CompactionDetermined =
+    (m : ℕ) (c : Curve) (ks : List ℕ) (kx ky : List ℤ) (a b : CompactAnswer) (k l : List ℕ) (x y u w : List ℤ)
+    → CompactOutcome m c ks kx ky a k x y → CompactOutcome m c ks kx ky b l u w → (a ≡ b) × (k ≡ l) × (x ≡ u) × (y ≡ w)
 
 -- "Joining spline points": a joined curve passes the check
 abbrev pub JoinedCurvePasses : Type 0

@@ -1,0 +1,65 @@
+-- Compacting keeps the exact curve: it is a chain of removals, and each of them does.
+use mathlib.Core.List.{List}
+use mathlib.Core.Path.{_≡_, refl, ap, sym, _∙_}
+use Prim.Native.Nat.{ℕ, _+_, _<_}
+use native.Mathlib.Omega.{arith}
+use lib.IntN.{ℤ}
+use lib.ListN.{length, getD}
+use Rattle.grid.proofs.SizeLaws.{sizes-of-passes}
+use Rattle.insertion.proofs.JudgedLaws.{accepted-of-number}
+use Rattle.insertion.proofs.PointLaws.{insertedPoints-length}
+use Rattle.removal.specs.Removal.{withoutOne, Reinserts}
+use Rattle.compaction.specs.Compaction.{Curve, Removes, RemovesWhile, stays, goesOn, Pass, done, next}
+use Rattle.knots_exact.specs.SameCurve.{SameOnAxis, SameCurve, CompactKeepsCurve}
+use Rattle.knots_exact.proofs.RemovalLaws.{remove-keeps-curve}
+use Rattle.knots_exact.proofs.SameLaws.{axis-trans}
+
+-- a curve that has points
+record Some (c : Curve) : Type 0 where
+  xs : 0 < length (c .xs)
+  ys : 0 < length (c .ys)
+
+-- the same curve, of two curves held whole
+abbrev Same : ℕ → Curve → Curve → Type 0
+Same m c d = SameCurve m (c .knots) (c .xs) (c .ys) (d .knots) (d .xs) (d .ys)
+
+same-refl : (m : ℕ) (c : Curve) → Same m c c
+same-refl m c = record {
+  x = record { start = refl; stop = refl; point = λ p q above inside. refl };
+  y = record { start = refl; stop = refl; point = λ p q above inside. refl };
+}
+
+same-trans : (m : ℕ) (c d e : Curve) → Some c → Some d → Same m c d → Same m d e → Same m c e
+same-trans m c d e some many s t = record {
+  x = axis-trans m (c .knots) (c .xs) (d .knots) (d .xs) (some .xs) (many .xs) (s .x) (e .knots) (e .xs) (t .x);
+  y = axis-trans m (c .knots) (c .ys) (d .knots) (d .ys) (some .ys) (many .ys) (s .y) (e .knots) (e .ys) (t .y);
+}
+
+-- what is left after a removal has points
+left-some : (m v : ℕ) (c d : Curve) → Removes m v c d → Some d
+left-some m v c d r =
+    let size = sizes-of-passes m (withoutOne v (c .knots)) (d .xs) (d .ys) (accepted-of-number m (withoutOne v (c .knots)) (d .xs) (d .ys) v (length (c .knots)) (length (c .xs)) (length (c .ys)) (r .reinserts .accepts) .passes) in
+    record { xs = omega (arith, size .enough); ys = omega (arith, size .enough, size .as-many) }
+
+one-same : (m v : ℕ) (c d : Curve) → Removes m v c d → Same m c d
+one-same m v c d r =
+    rw (r .fewer) (remove-keeps-curve m v (withoutOne v (c .knots)) (d .xs) (d .ys) (c .knots) (c .xs) (c .ys) (r .reinserts))
+
+while-some : {m v : ℕ} {c d : Curve} → RemovesWhile m v c d → Some c → Some d
+while-some (stays h) s = s
+while-some {m} {v} (goesOn {c = c} {d = d} r rest) s = while-some rest (left-some m v c d r)
+
+while-same : {m v : ℕ} {c e : Curve} → RemovesWhile m v c e → Some c → Same m c e
+while-same {m} {v} {c} (stays h) s = same-refl m c
+while-same {m} {v} (goesOn {c = c} {d = d} {e = e} r rest) s =
+    same-trans m c d e s (left-some m v c d r) (one-same m v c d r) (while-same rest (left-some m v c d r))
+
+pass-same : {m low : ℕ} {c e : Curve} → Pass m low c e → Some c → Same m c e
+pass-same {m} {low} {c} (done h) s = same-refl m c
+pass-same {m} {low} (next {c = c} {d = d} {e = e} n w p) s =
+    same-trans m c d e s (while-some w s) (while-same w s) (pass-same p (while-some w s))
+
+pub compact-keeps-curve : CompactKeepsCurve
+compact-keeps-curve m c d passes pass =
+    let size = sizes-of-passes m (c .knots) (c .xs) (c .ys) passes in
+    pass-same pass (record { xs = omega (arith, size .enough); ys = omega (arith, size .enough, size .as-many) })
