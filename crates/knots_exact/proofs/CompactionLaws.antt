@@ -1,16 +1,15 @@
 -- Compacting keeps the exact curve: it is a chain of removals, and each of them does.
-use mathlib.Core.List.{List}
-use mathlib.Core.Path.{_≡_, refl, ap, sym, _∙_}
-use Prim.Native.Nat.{ℕ, _+_, _<_}
+use mathlib.Core.Path.{refl}
+use Prim.Native.Nat.{ℕ, _<_}
 use native.Mathlib.Omega.{arith}
-use lib.IntN.{ℤ}
-use lib.ListN.{length, getD}
+use lib.ListN.{length}
+use Rattle.grid.specs.Check.{Passes}
+use Rattle.insertion.proofs.ResultLaws.{inserted-passes}
 use Rattle.grid.proofs.SizeLaws.{sizes-of-passes}
 use Rattle.insertion.proofs.JudgedLaws.{accepted-of-number}
-use Rattle.insertion.proofs.PointLaws.{insertedPoints-length}
-use Rattle.removal.specs.Removal.{withoutOne, Reinserts}
+use Rattle.removal.specs.Removal.{withoutOne}
 use Rattle.compaction.specs.Compaction.{Curve, Removes, RemovesWhile, stays, goesOn, Pass, done, next}
-use Rattle.knots_exact.specs.SameCurve.{SameOnAxis, SameCurve, CompactKeepsCurve}
+use Rattle.knots_exact.specs.SameCurve.{SameCurve, CompactKeepsCurve, EditingPasses}
 use Rattle.knots_exact.proofs.RemovalLaws.{remove-keeps-curve}
 use Rattle.knots_exact.proofs.SameLaws.{axis-trans}
 
@@ -63,3 +62,25 @@ pub compact-keeps-curve : CompactKeepsCurve
 compact-keeps-curve m c d passes pass =
     let size = sizes-of-passes m (c .knots) (c .xs) (c .ys) passes in
     pass-same pass (record { xs = omega (arith, size .enough); ys = omega (arith, size .enough, size .as-many) })
+
+-- what is left after a removal passes the check
+left-passes : (m v : ℕ) (c d : Curve) → Removes m v c d → Passes m (d .knots) (d .xs) (d .ys)
+left-passes m v c d r =
+    rw (r .fewer)
+    (accepted-of-number m (withoutOne v (c .knots)) (d .xs) (d .ys) v (length (c .knots)) (length (c .xs)) (length (c .ys)) (r .reinserts .accepts) .passes)
+
+while-passes : {m v : ℕ} {c d : Curve} → RemovesWhile m v c d → Passes m (c .knots) (c .xs) (c .ys) → Passes m (d .knots) (d .xs) (d .ys)
+while-passes (stays h) p = p
+while-passes {m} {v} (goesOn {c = c} {d = d} r rest) p = while-passes rest (left-passes m v c d r)
+
+pass-passes : {m low : ℕ} {c d : Curve} → Pass m low c d → Passes m (c .knots) (c .xs) (c .ys) → Passes m (d .knots) (d .xs) (d .ys)
+pass-passes (done h) p = p
+pass-passes (next n w rest) p = pass-passes rest (while-passes w p)
+
+-- inserting, removing and compacting give curves that pass the check
+pub editing-passes : EditingPasses
+editing-passes = (
+  λ m ts xs ys v roomKnots roomXs roomYs e. inserted-passes m ts xs ys v roomKnots roomXs roomYs e,
+  λ m v ks px py ts xs ys r. accepted-of-number m ks px py v (length ts) (length xs) (length ys) (r .accepts) .passes,
+  λ m c d p pass. pass-passes pass p,
+)

@@ -44,3 +44,11 @@ abbrev pub CompactKeepsCurve : Type 0
 CompactKeepsCurve =
     (m : ℕ) (c d : Curve) → Passes m (c .knots) (c .xs) (c .ys) → CompactsTo m c d
     → SameCurve m (c .knots) (c .xs) (c .ys) (d .knots) (d .xs) (d .ys)
+
+-- what an accepted insertion, an accepted removal and a compaction give passes the check again
+abbrev pub EditingPasses : Type 0
+EditingPasses =
+    ((m : ℕ) (ts : List ℕ) (xs ys : List ℤ) (v roomKnots roomXs roomYs : ℕ) → insertionNumber m ts xs ys v roomKnots roomXs roomYs ≡ accepted
+    → Passes m (insertedKnots ts v) (insertedPoints m ts xs v) (insertedPoints m ts ys v))
+    × ((m v : ℕ) (ks : List ℕ) (px py : List ℤ) (ts : List ℕ) (xs ys : List ℤ) → Reinserts m v ks px py ts xs ys → Passes m ks px py)
+    × ((m : ℕ) (c d : Curve) → Passes m (c .knots) (c .xs) (c .ys) → CompactsTo m c d → Passes m (d .knots) (d .xs) (d .ys))

@@ -19,9 +19,9 @@ use Rattle.round_trip.proofs.JobTrip.{job-reads-back, jobs-short, job-sixteen-e
 use Rattle.worked.proofs.WorkedLaws.{worked-hold}
 use Rattle.job_text.proofs.TextLaws.{written-is-text}
 use Rattle.job_text.proofs.UniqueLaws.{text-unique}
-use Rattle.knots_exact.proofs.CompactionLaws.{compact-keeps-curve}
+use Rattle.knots_exact.proofs.CompactionLaws.{compact-keeps-curve, editing-passes}
 use Rattle.compact.proofs.OutcomeLaws as Compaction
-use Rattle.promises.specs.Promises.{CheckGivesLowestRow, EveryParameterHasItsSpan, ComputedPointNearExact, CrossingsReported, InsertionKeepsCurve, RemovalKeepsCurve, RemovalDetermined, CompactionKeepsCurve, CompactionDetermined, JoinedCurvePasses, JoinedCurveIsHermite, RecordsGoRound, ReadingIsExact, JobsReadBack, ProgramWritesItsText, WorkedCasesHold}
+use Rattle.promises.specs.Promises.{CheckGivesLowestRow, EveryParameterHasItsSpan, ComputedPointNearExact, CrossingsReported, InsertionKeepsCurve, RemovalKeepsCurve, RemovalDetermined, CompactionKeepsCurve, CompactionDetermined, EditedCurvePasses, JoinedCurvePasses, JoinedCurveIsHermite, RecordsGoRound, ReadingIsExact, JobsReadBack, ProgramWritesItsText, WorkedCasesHold}
 
 pub check-gives-lowest-row : CheckGivesLowestRow
 check-gives-lowest-row m ts xs ys = (check-answers m ts xs ys, check-answers-none m ts xs ys)
@@ -81,3 +81,6 @@ compaction-keeps-curve = compact-keeps-curve
 
 pub compaction-determined : CompactionDetermined
 compaction-determined m c ks kx ky = Compaction.compact-determined m c ks kx ky
+
+pub edited-curve-passes : EditedCurvePasses
+edited-curve-passes = editing-passes

@@ -25,7 +25,7 @@ use Rattle.job_text.specs.Written.{knotPlaces, coordinatePlaces, sidePlaces, wr
 use Rattle.worked.specs.Case.{AllHold}
 use Rattle.worked.specs.Worked.{cases}
 use Rattle.joining_exact.specs.JoinedCurve.{JoinPasses, JoinIsHermite}
-use Rattle.knots_exact.specs.SameCurve.{InsertKeepsCurve, RemoveKeepsCurve, CompactKeepsCurve}
+use Rattle.knots_exact.specs.SameCurve.{InsertKeepsCurve, RemoveKeepsCurve, CompactKeepsCurve, EditingPasses}
 
 -- "Numbers of refusal": the check answers n exactly when row n applies and no lower row does, and 0 exactly when no row does
 abbrev pub CheckGivesLowestRow : Type 0
@@ -74,6 +74,10 @@ abbrev pub CompactionDetermined : Type 0
 CompactionDetermined =
     (m : ℕ) (c : Curve) (ks : List ℕ) (kx ky : List ℤ) (a b : CompactAnswer) (k l : List ℕ) (x y u w : List ℤ)
     → CompactOutcome m c ks kx ky a k x y → CompactOutcome m c ks kx ky b l u w → (a ≡ b) × (k ≡ l) × (x ≡ u) × (y ≡ w)
+
+-- "Inserting and removing a knot": what inserting, removing and compacting give passes the check again
+abbrev pub EditedCurvePasses : Type 0
+EditedCurvePasses = EditingPasses
 
 -- "Joining spline points": a joined curve passes the check
 abbrev pub JoinedCurvePasses : Type 0
