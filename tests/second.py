@@ -18,19 +18,6 @@ from second_program.expected import Unexpected
 from second_program.vectors import CALLS, answer_file, case_file
 
 FOLDER = Path(__file__).resolve().parent.parent / "crates" / "vectors"
-WIRED = (  # the calls that the program of crates/vectors runs
-    "check",
-    "point_at",
-    "carrying",
-    "insert_knot",
-    "remove_knot",
-    "join_through_points",
-    "list_spans_met",
-    "write_record",
-    "read_record",
-    "read_job",
-    "clampcheck_text",
-)
 
 LEAST_CASES = 2000
 LEAST_OF_CALL = 50
@@ -65,7 +52,7 @@ def too_few(calls, cases):
         for number in REFUSALS[call]:
             if of_refusal[call, number] < LEAST_OF_REFUSAL:
                 yield "%s has %d cases of refusal %d" % (call, of_refusal[call, number], number)
-    if tuple(calls) == WIRED and len(cases) < LEAST_CASES:
+    if tuple(calls) == CALLS and len(cases) < LEAST_CASES:
         yield "there are %d cases in all" % len(cases)
 
 
@@ -82,7 +69,7 @@ def differences(calls, cases):
     """Where the files are not what is made anew; of a single call, its part of them."""
     for name, anew in (("stdin", case_file(cases)), ("stdout", answer_file(cases))):
         kept = (FOLDER / name).read_bytes()
-        same = anew == kept if tuple(calls) == tuple(WIRED) else anew in kept
+        same = anew == kept if tuple(calls) == CALLS else anew in kept
         if not same:
             yield "crates/vectors/%s differs from what is made anew" % name
 
@@ -100,7 +87,7 @@ def compare(calls):
 
 
 def write():
-    cases = [case for call in WIRED for case in cases_of(call)]
+    cases = [case for call in CALLS for case in cases_of(call)]
     FOLDER.mkdir(exist_ok=True)
     (FOLDER / "stdin").write_bytes(case_file(cases))
     (FOLDER / "stdout").write_bytes(answer_file(cases))
@@ -110,8 +97,8 @@ def main(arguments):
     if arguments == ["write"]:
         write()
         return 0
-    if arguments[:1] == ["compare"] and all(call in WIRED for call in arguments[1:]):
-        faults = compare(arguments[1:] or WIRED)
+    if arguments[:1] == ["compare"] and all(call in CALLS for call in arguments[1:]):
+        faults = compare(arguments[1:] or CALLS)
         for fault in faults:
             print(fault, file=sys.stderr)
         return 1 if faults else 0

@@ -9,7 +9,7 @@ TESTS = Path(__file__).resolve().parent.parent
 sys.dont_write_bytecode = True
 sys.path.insert(0, str(TESTS))
 
-from second import WIRED
+from second_program.vectors import CALLS
 
 SPOILED = "crates/vectors/stdout differs from what is made anew"
 
@@ -27,8 +27,8 @@ def noticed(call):
     return run.returncode == 1 and SPOILED in lines and not any("stdin differs" in line for line in lines)
 
 
-missed = [call for call in WIRED if not noticed(call)]
-print("planted faults noticed: %d of %d" % (len(WIRED) - len(missed), len(WIRED)))
+missed = [call for call in CALLS if not noticed(call)]
+print("planted faults noticed: %d of %d" % (len(CALLS) - len(missed), len(CALLS)))
 for call in missed:
     print("the planted fault of %s was not noticed" % call, file=sys.stderr)
 sys.exit(1 if missed else 0)

@@ -6,7 +6,8 @@ comes first, what the call names beside it next, capacities last.
 A lent result list is given by its capacity alone: before the call entry k of it holds 7k + 13 (u16), 9k - 5 (i32) or
 (5k + 3) mod 256 (u8), and the number lent to `carrying` holds 77.
 
-An answer is the refusal number in 4 bytes, 0 for none; after a success the answer's values, counts as u32 and floats by
+An answer is the refusal number in 4 bytes, 0 for none; after a success the answer's values (of points, spans, bytes or
+degree and counts of what was read; of `compact` the number removed), counts as u32 and floats by
 their 8 bytes; then every lent result list whole, as it stands after the call. `carrying` has the lent number, then the count
 and entries of the part. The text of `clampcheck` stands behind its number with a byte 0 after it.
 """
@@ -129,7 +130,7 @@ def remove_knot(curve, v, room):
 @answering
 def compact(curve, room):
     number, new, removed = knots.compact(curve, room)
-    counts = u32(len(new.xs), removed) if number == 0 else b""
+    counts = u32(removed) if number == 0 else b""
     arguments = curve_bytes(curve) + u32(*room)
     return case("compact", number, arguments, counts + lists_after(number, new, room), size(curve), curve)
 

@@ -30,6 +30,7 @@ fn run<'a>(
         }
         4 => insert_cases::insert(degree, knots, xs, ys, body, at, out),
         5 => remove_cases::remove(degree, knots, xs, ys, body, at, out),
+        6 => compact_cases::compacted(degree, knots, xs, ys, body, at, out),
         8 => span_cases::spans(degree, knots, xs, ys, body, at, out),
         9 => record_cases::write(degree, knots, xs, ys, body, at, out),
         _ => 0,

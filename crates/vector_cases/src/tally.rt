@@ -54,14 +54,6 @@ fn gives(call: usize, number: usize) -> bool {
     }
 }
 
-// The calls that are run so far.
-fn runs(call: usize) -> bool {
-    match call {
-        1 | 2 | 3 | 4 | 5 | 7 | 8 | 9 | 10 | 11 | 12 => true,
-        _ => false,
-    }
-}
-
 // How many cases there must be at a place of the counts.
 fn least(place: usize) -> u32 {
     let call = place / 32;
@@ -69,7 +61,7 @@ fn least(place: usize) -> u32 {
     if place == 0 {
         return LEAST_CASES;
     }
-    if !runs(call) {
+    if call == 0 {
         return 0;
     }
     if number == ALL_OF_CALL {
