@@ -149,6 +149,22 @@ uint32_t tsb_remove(
     size_t *TSB_RESTRICT points);
 
 /*
+ * The same curve with the knots gone that can be spared: the inner values from left to right, each removed, as by
+ * tsb_remove, as often as that is possible; one pass. The new number of points goes to *points and the number
+ * of knots removed to *removed; there are *points + degree + 1 knots. Nothing to remove is no refusal: the curve
+ * comes back as it is. The lists need places for the result alone.
+ * Refused by 1 to 7, then 15. The time grows with the square of the number of points, not evenly as for the
+ * other calls.
+ */
+uint32_t tsb_compact(
+    uint32_t degree, const uint16_t *knots, size_t knots_len,
+    const int32_t *xs, size_t xs_len, const int32_t *ys, size_t ys_len,
+    uint16_t *TSB_RESTRICT out_knots, size_t out_knots_len,
+    int32_t *TSB_RESTRICT out_xs, size_t out_xs_len,
+    int32_t *TSB_RESTRICT out_ys, size_t out_ys_len,
+    size_t *TSB_RESTRICT points, size_t *TSB_RESTRICT removed);
+
+/*
  * A curve of degree 3 through spline points: at the parameter params[i] it passes through (px[i], py[i])
  * with the tangent (tx[i], ty[i]), in grid steps per unit of the parameter. With k + 1 spline points the
  * result has 3k + 1 points, whose number goes to *points, and 3k + 5 knots: each end value four times, each

@@ -1,5 +1,6 @@
 /*
- * A tour of the library from C: the point on a curve, a knot inserted and removed, spline points joined, the spans that a
+ * A tour of the library from C: the point on a curve, a knot inserted and removed, all knots removed that can go,
+ * spline points joined, the spans that a
  * clamp asks for, a record written and read back, and some refusals.
  * Build and run: examples/c/build.sh run
  */
@@ -25,7 +26,7 @@ struct curve {
 
 static struct curve a = {3, 4, {0, 0, 0, 0, 4, 4, 4, 4}, {0, 0, 8, 8}, {0, 8, 8, 0}};
 static struct curve b = {2, 4, {0, 0, 0, 2, 4, 4, 4}, {0, 4, 8, 12}, {0, 8, 8, 0}};
-static struct curve result;
+static struct curve result, kept;
 static uint8_t bytes[TSB_JOB_MOST];
 
 static void print_points(const struct curve *c)
@@ -64,6 +65,19 @@ static void print_removed(const struct curve *c, uint32_t v)
     if (refusal == TSB_OK)
         print_points(&result);
     else
+        printf(" refused %u\n", (unsigned)refusal);
+}
+
+static void print_compacted(const struct curve *c)
+{
+    size_t removed;
+    uint32_t refusal = tsb_compact(GIVEN(*c), PLACES(result), &result.points, &removed);
+    result.degree = c->degree;
+    printf("compacted:");
+    if (refusal == TSB_OK) {
+        printf(" %u removed,", (unsigned)removed);
+        print_points(&result);
+    } else
         printf(" refused %u\n", (unsigned)refusal);
 }
 
@@ -156,8 +170,11 @@ int main(void)
     print_point_at(&b, 1);
     print_point_at(&b, 2);
     print_inserted(&b, 1);
+    kept = result; /* a result list never shares memory with an input */
+    print_compacted(&kept);
     print_inserted(&b, 2);
-    print_inserted(&result, 2);
+    kept = result;
+    print_inserted(&kept, 2);
     print_inserted(&b, 4);
     print_removed(&b, 2);
     print_removed(&b, 3);

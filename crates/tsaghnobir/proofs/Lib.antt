@@ -2,3 +2,4 @@
 pub mod Answers
 pub mod ArmLaws
 pub mod CarryingLaws
+pub mod CompactLaws

@@ -1,4 +1,5 @@
-// Inserting and removing knots.
+// Inserting and removing knots, and compaction.
+use compact::CompactAnswer;
 use insert_knot::InsertAnswer;
 use remove_knot::RemoveAnswer;
 ghost use mathlib.Core.Path.{_≡_};
@@ -7,7 +8,7 @@ ghost use lib.ListN.{length};
 ghost use Rattle.insertion.specs.Judged.{insertionNumber};
 ghost use Rattle.insert_knot.specs.Lists.{InsertedLists};
 ghost use Rattle.tsaghnobir.specs.Places.{placed};
-ghost use Rattle.tsaghnobir.specs.Removing.{RemovedThrough};
+ghost use Rattle.tsaghnobir.specs.Removing.{RemovedThrough, CompactedThrough};
 
 #[no_mangle]
 pub extern "C" fn tsb_insert(
@@ -56,5 +57,30 @@ pub extern "C" fn tsb_remove(
             refusal::ACCEPTED
         }
         RemoveAnswer::Refused(number) => number,
+    }
+}
+
+#[no_mangle]
+pub extern "C" fn tsb_compact(
+    degree: u32,
+    knots: &[u16],
+    xs: &[i32],
+    ys: &[i32],
+    out_knots: &mut [u16],
+    out_xs: &mut [i32],
+    out_ys: &mut [i32],
+    points: &mut usize,
+    removed: &mut usize,
+) -> u32
+    ensures answer { λ r. ⌜ CompactedThrough degree (record { knots = now (knots .entry); xs = now (xs .entry); ys = now (ys .entry) }) (now («out_knots» .entry)) (now («out_xs» .entry)) (now («out_ys» .entry)) (now («out_knots» .exit)) (now («out_xs» .exit)) (now («out_ys» .exit)) r (now (points .entry)) (now (points .exit)) (now (removed .entry)) (now (removed .exit)) ⌝ }
+{
+    let answer = compact::compact(degree, knots, xs, ys, out_knots, out_xs, out_ys);
+    match answer {
+        CompactAnswer::Compacted(count) => {
+            *points = xs.len() - count;
+            *removed = count;
+            refusal::ACCEPTED
+        }
+        CompactAnswer::Refused(number) => number,
     }
 }

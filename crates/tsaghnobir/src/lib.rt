@@ -12,6 +12,7 @@ pub use curve::tsb_carrying;
 pub use curve::tsb_check;
 pub use curve::tsb_point;
 pub use curve::tsb_spans;
+pub use knots::tsb_compact;
 pub use knots::tsb_insert;
 pub use knots::tsb_remove;
 pub use spline_points::tsb_join;

@@ -1,0 +1,65 @@
+-- `tsaghnobir::tsb_compact` meets its contract: each arm is the answer that the wrapped call gave, and no more is removed than there was.
+use mathlib.Core.Path.{refl}
+use borrow.Author.Needs.{needs}
+use Rattle.tsaghnobir.proofs.CompactLaws.{removed-most}
+use Rattle.tsaghnobir.proofs.knots.tsb_compact.Statement.{statement}
+use Rattle.tsaghnobir.proofs.knots.tsb_compact.Tie as tie
+
+compact-requires : tie.Need-compact-requires
+compact-requires c κs = search needs
+
+enum-known-answer : tie.Need-enum-known-answer
+enum-known-answer c = search needs
+
+sub-points : tie.Need-sub-points
+sub-points c = removed-most (c .before .before .before .before .before .before .before .compact .ensures) (c .before .answer .given .1)
+
+enum-known-answer-2 : tie.Need-enum-known-answer-2
+enum-known-answer-2 c = search needs
+
+same-length : tie.Need-same-length
+same-length c = search needs
+
+same-length-2 : tie.Need-same-length-2
+same-length-2 c = search needs
+
+same-length-3 : tie.Need-same-length-3
+same-length-3 c = search needs
+
+returns : tie.Need-returns
+returns c =
+    let call = c .before .before .before .before .before .before .before .compact in
+    let arm = c .before .answer .given .1 in
+    record { answer = call .result; outcome = call .ensures; told = rw arm (refl, refl, refl) }
+
+same-length-4 : tie.Need-same-length-4
+same-length-4 c = search needs
+
+same-length-5 : tie.Need-same-length-5
+same-length-5 c = search needs
+
+same-length-6 : tie.Need-same-length-6
+same-length-6 c = search needs
+
+returns-2 : tie.Need-returns-2
+returns-2 c =
+    let call = c .before .before .before .before .before .before .before .compact in
+    let arm = c .before .answer2 .given .1 in
+    record { answer = call .result; outcome = call .ensures; told = rw arm (refl, refl, refl) }
+
+pub tsb-compact-spec : {M : Type 1} → statement M
+tsb-compact-spec =
+    tie.close
+    (tie.spec
+    compact-requires
+    enum-known-answer
+    sub-points
+    enum-known-answer-2
+    same-length
+    same-length-2
+    same-length-3
+    returns
+    same-length-4
+    same-length-5
+    same-length-6
+    returns-2)
