@@ -6,10 +6,10 @@ comes first, what the call names beside it next, capacities last.
 A lent result list is given by its capacity alone: before the call entry k of it holds 7k + 13 (u16), 9k - 5 (i32) or
 (5k + 3) mod 256 (u8), and the number lent to `carrying` holds 77.
 
-An answer is the refusal number in 4 bytes, 0 for none; after a success the answer's values (of points, spans, bytes or
-degree and counts of what was read; of `compact` the number removed), counts as u32 and floats by
-their 8 bytes; then every lent result list whole, as it stands after the call. `carrying` has the lent number, then the count
-and entries of the part. The text of `clampcheck` stands behind its number with a byte 0 after it.
+An answer is the refusal number in 4 bytes, 0 for none. After a success the answer's values follow: floats by their 8 bytes,
+the number of points, spans or bytes as u32, of `compact` the number removed, of a reader the degree and the counts. Then
+comes every lent result list whole, as it stands after the call. `carrying` has the lent number, then the count and the
+entries of the part. The text of `clampcheck` stands behind its number with a byte 0 after it.
 """
 
 import struct
