@@ -1,6 +1,6 @@
 /*
  * The proved library against the same calls written plainly in C, in one process on the same inputs. Both must give the same numbers, lists and
- * places; then each is timed, the two in turn, and the least time of all rounds counts. Prints nanoseconds a call, the ratio, and how the
+ * places; then each is timed, the two in turn, and the least time of all rounds counts (2,000, or as many as two seconds hold). Prints nanoseconds a call, the ratio, and how the
  * library's time grows with the number of points.
  * Build and run: bench/run.sh
  */
@@ -15,9 +15,9 @@
 
 enum { ROUNDS = 2000, DEGREE = 3, STEP = 6, PARAMETERS = 16, SIZES = 4 };
 
-enum call { CHECK, POINT, CARRYING, SPANS, INSERT, JOIN, WRITE, READ, CALLS };
+enum call { CHECK, POINT, CARRYING, SPANS, INSERT, JOIN, WRITE, READ, COMPACT, CALLS };
 
-static const char *const names[CALLS] = {"check", "point", "carrying", "spans", "insert", "join", "write", "read"};
+static const char *const names[CALLS] = {"check", "point", "carrying", "spans", "insert", "join", "write", "read", "compact"};
 static const size_t sizes[SIZES] = {4, 64, 256, 1024};
 
 struct input {
@@ -25,6 +25,7 @@ struct input {
     uint16_t knots[TSB_KNOTS_MOST];
     uint16_t inserted_knots[TSB_KNOTS_MOST];
     int32_t xs[TSB_POINTS_MOST], ys[TSB_POINTS_MOST];
+    int32_t slack_xs[TSB_POINTS_MOST], slack_ys[TSB_POINTS_MOST];
     uint16_t params[TSB_SPLINE_POINTS_MOST];
     int32_t px[TSB_SPLINE_POINTS_MOST], py[TSB_SPLINE_POINTS_MOST];
     int32_t tx[TSB_SPLINE_POINTS_MOST], ty[TSB_SPLINE_POINTS_MOST];
@@ -41,12 +42,16 @@ struct output {
     uint8_t bytes[TSB_RECORD_MOST];
 };
 
+/* nanoseconds that one measurement may take */
+#define LONGEST 2e9
+
 static struct input in;
 static struct output by_library, by_plain;
 
 #define GIVEN DEGREE, in.knots, in.points + DEGREE + 1, in.xs, in.points, in.ys, in.points
 #define FOR_INSERTION \
     DEGREE, in.inserted_knots, in.inserted_points + DEGREE + 1, in.xs, in.inserted_points, in.ys, in.inserted_points
+#define SLACK DEGREE, in.knots, in.points + DEGREE + 1, in.slack_xs, in.points, in.slack_ys, in.points
 #define SPLINE \
     in.params, in.spline_points, in.px, in.spline_points, in.py, in.spline_points, in.tx, in.spline_points, in.ty, in.spline_points
 #define PLACES out->knots, TSB_KNOTS_MOST, out->xs, TSB_POINTS_MOST, out->ys, TSB_POINTS_MOST
@@ -67,6 +72,7 @@ static struct output by_library, by_plain;
             case JOIN: refusal |= side##_join(SPLINE, PLACES, &out->count); break;                                          \
             case WRITE: refusal |= side##_write_record(GIVEN, out->bytes, TSB_RECORD_MOST, &out->count); break;             \
             case READ: refusal |= side##_read_record(in.bytes, in.length, PLACES, &out->degree, &out->count); break;        \
+            case COMPACT: refusal |= side##_compact(SLACK, PLACES, &out->count, &out->place); break;                        \
             case CALLS: break;                                                                                              \
             }                                                                                                               \
         out->refusal = refusal;                                                                                             \
@@ -108,6 +114,11 @@ static void fill_input(size_t points)
         in.xs[i] = coordinate();
         in.ys[i] = coordinate();
     }
+    /* points of a straight line, every eighth moved off it: some knots can go, some cannot */
+    for (size_t i = 0; i < points; i++) {
+        in.slack_xs[i] = (in.knots[i + 1] + in.knots[i + 2] + in.knots[i + 3]) / 3;
+        in.slack_ys[i] = 2 * in.slack_xs[i] + (i % 8 == 5 ? 36 : 0);
+    }
     for (size_t i = 0; i < in.spline_points; i++) {
         in.params[i] = (uint16_t)(STEP * i);
         in.px[i] = coordinate();
@@ -146,7 +157,7 @@ static double now(void)
 /* Calls that take some 50 microseconds together. */
 static size_t batch_of(enum call call)
 {
-    size_t times = 16;
+    size_t times = 1;
     for (;;) {
         double began = now();
         repeat_plain(call, times, &by_plain);
@@ -160,7 +171,8 @@ static void measure(enum call call, double *library, double *plain)
 {
     size_t times = batch_of(call);
     *library = *plain = 1e18;
-    for (int round = 0; round < ROUNDS; round++) {
+    double first = now();
+    for (int round = 0; round < ROUNDS && (round < 20 || now() - first < LONGEST); round++) {
         double began = now();
         repeat_tsb(call, times, &by_library);
         double between = now();
