@@ -21,6 +21,7 @@ from second_program.joining import join
 from second_program.knots import compact, insert_knot, polygon_with, remove_knot
 from second_program.random_curves import random_curve
 from second_program.record import clampcheck_text, read_job, read_record, record_of
+from second_program.remove_cases import SMOOTH, smooth_joined
 from second_program.spans import list_spans_met
 
 CLAMPS = [(2, 3, 5, 9), (9, 12, 0, 4), (8, 10, 8, 9)]
@@ -54,6 +55,15 @@ class WorkedByHand(unittest.TestCase):
         xs = [3, -2, 1, 3, 4, 4]
         number, new, removed = compact(Curve(2, [0, 0, 0, 1, 2, 3, 4, 4, 4], xs, xs), WIDE)
         self.assertEqual((number, removed, new.knots), (0, 1, [0, 0, 0, 1, 2, 4, 4, 4]))
+
+    def test_joined_then_compacted(self):
+        for bends in SMOOTH:
+            curve = smooth_joined(bends)
+            number, new, removed = compact(curve, WIDE)
+            inner = [t for t in new.knots if 0 < t < 18]
+            self.assertEqual((number, inner, removed), (0, [b for b, _ in bends], len(curve.xs) - len(new.xs)))
+            for k in range(0, 18 * 4 + 1):
+                self.assertEqual(exact_point(new, Fraction(k, 4)), exact_point(curve, Fraction(k, 4)))
 
     def test_joining(self):
         number, new = join([0, 12], [0, 12], [0, 0], [1, 1], [1, -1], WIDE)

@@ -17,8 +17,13 @@ from .expected import (
     spare_room,
 )
 from .insert_cases import insertable, insertable_value, window
+from .joining import join
 from .knots import compact, insert_knot, polygon_with, remove_knot
 from .random_curves import outside_parameter, random_curve, random_knots
+
+
+# where the third derivative of a joined curve changes, and by how much: one knot is left at each
+SMOOTH = ((), ((6, 2),), ((9, -1),), ((3, 1), (12, -2)), ((3, 1), (6, -1), (15, 3)))
 
 
 def removable(dice, m=None):
@@ -129,8 +134,24 @@ def knotted(dice, m):
     return curve
 
 
+def smooth_joined(bends):
+    """Spline points at 0, 3, .., 18 joined: a cubic whose third derivative changes at the bends and nowhere else."""
+    params = list(range(0, 21, 3))
+    jumps = [(0, 1)] + list(bends)
+    px = [sum(a * (s - b) ** 3 for b, a in jumps if b <= s) - 40 * s for s in params]
+    tx = [sum(3 * a * (s - b) ** 2 for b, a in jumps if b <= s) - 40 for s in params]
+    py = [7 * s * s - 90 * s for s in params]
+    ty = [14 * s - 90 for s in params]
+    number, curve = join(params, px, py, tx, ty, WIDE)
+    assert number == 0
+    return curve
+
+
 def compact_cases(dice):
     make = vectors.compact
+    for bends in SMOOTH:
+        curve = smooth_joined(bends)
+        yield expect(0, make(curve, room_for(compact(curve, WIDE)[1])))
     second_pass = [3, -2, 1, 3, 4, 4]
     yield expect(0, make(Curve(2, [0, 0, 0, 1, 2, 3, 4, 4, 4], second_pass, second_pass), (9, 6, 6)))
     for k in range(2 * SUCCESSES):
