@@ -1,4 +1,4 @@
-"""The second program itself, held to the cases of document 01 that are worked by hand, and to laws that any right program
+"""The second program itself, held to the cases of the scope that are worked by hand, and to laws that any right program
 keeps: insertion keeps the curve, joining is the Hermite cubic, removal is what a search over polygons finds."""
 
 import sys

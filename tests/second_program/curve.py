@@ -1,4 +1,4 @@
-"""Document 01, "The curve on the grid" and "The point at a parameter", by the letter: the check, the span,
+"""The scope, "The curve on the grid" and "The point at a parameter", by the letter: the check, the span,
 the computed point in binary64, the carrying coordinates, and the exact point over fractions."""
 
 from collections import Counter

@@ -1,4 +1,4 @@
-"""Document 01, "Joining spline points": from parameters, points and tangents to a cubic curve of Bezier pieces."""
+"""The scope, "Joining spline points": from parameters, points and tangents to a cubic curve of Bezier pieces."""
 
 from fractions import Fraction
 

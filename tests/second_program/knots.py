@@ -1,4 +1,4 @@
-"""Document 01, "Inserting and removing a knot". Insertion follows the formula over fractions. Removal solves for the one
+"""The scope, "Inserting and removing a knot". Insertion follows the formula over fractions. Removal solves for the one
 rational polygon by elimination, whatever the weights are, and then inserts the knot again and looks at every point."""
 
 from fractions import Fraction

@@ -1,4 +1,4 @@
-"""Document 01, "The record on disk" and the text of `clampcheck`: records written and read, jobs read and told."""
+"""The scope, "The record on disk" and the text of `clampcheck`: records written and read, jobs read and told."""
 
 import struct
 

@@ -1,4 +1,4 @@
-"""Document 01, "Spans to check": the non-empty spans whose closed box of carrying points meets a closed rectangle."""
+"""The scope, "Spans to check": the non-empty spans whose closed box of carrying points meets a closed rectangle."""
 
 from .curve import check, within
 from .fault import planted
