@@ -11,7 +11,7 @@ use Rattle.grid.specs.Limits.{coordinateMost}
 use Rattle.insertion.specs.Insertion.{insertionSpan, pointAt}
 use Rattle.insertion.proofs.OrderLaws.{either}
 use Rattle.removal.specs.Axis.{Reduced, AxisReinserts, Candidate, Says, GivesBack, AxisOutcome}
-use Rattle.removal.proofs.EquationLaws.{reinserts-right, reinserts-double, reinserts-gives, reinserts-of-candidate, reduced-low, reduced-high}
+use Rattle.removal.proofs.EquationLaws.{reinserts-right, reinserts-double, reinserts-gives, reinserts-of-sides, reduced-low, reduced-high}
 
 module _ (m : ℕ) (ks : List ℕ) (v : ℕ) (ps : List ℤ) (s : Reduced m ks (length ps - 1) v) (j : ℕ) (inside : j + 1 < length ps) where
   -- where the next knot is not below v the entry comes from the right side
@@ -106,6 +106,6 @@ pub axis-of-candidate : (m : ℕ) (ks : List ℕ) (v : ℕ) (ps q : List ℤ) (r
     → Candidate m ks q v ps → Says r (GivesBack m ks q v ps) → AxisOutcome m ks v ps q r
 axis-of-candidate m ks v ps q r s size c says =
     record {
-      found = λ e. reinserts-of-candidate m ks v (length ps - 1) s q ps (omega arith) c (says .yes e);
+      found = λ e. reinserts-of-sides m ks v (length ps - 1) s q ps (omega arith) (c .count) (c .left) (c .right) (says .yes e) (c .range);
       none = λ e p h. says .no e (reinserts-gives m ks v (length ps - 1) s q ps (omega arith) (subst (λ (l : List ℤ). AxisReinserts m ks l v ps) (c .only p h) h));
     }

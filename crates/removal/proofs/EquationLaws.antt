@@ -21,7 +21,7 @@ use Rattle.insertion.proofs.QuotientLaws.{sum-natural, weight-natural}
 use Rattle.insertion.proofs.WholeLaws.{whole-each, whole-of-each}
 use Rattle.insertion.proofs.PointLaws.{insertedPoints-length, insertedPoints-at, point-left, point-quotient, point-right}
 use Rattle.grid.specs.Limits.{coordinateMost}
-use Rattle.removal.specs.Axis.{Reduced, AxisReinserts, GivesBack, Candidate}
+use Rattle.removal.specs.Axis.{Reduced, AxisReinserts, GivesBack}
 
 module _ (m : ℕ) (ks : List ℕ) (v count : ℕ) (s : Reduced m ks count v) where
   -- a list of that many coordinates on the grid can take v
@@ -122,37 +122,39 @@ module _ (m : ℕ) (ks : List ℕ) (v count : ℕ) (s : Reduced m ks count v) wh
       let w = span-weighed m ks (replicate count (pos 0)) v zeros j a b in
       record { low = w .low; high = w .high; knot = w .knot; first = w .first; point = omega (arith, w .point, length-replicate count (pos 0)) }
 
-  -- a candidate that gives the old coordinates back between the sides gives all of them back
-  pub reinserts-of-candidate : (q ps : List ℤ) → length ps ≡ count + 1 → Candidate m ks q v ps → GivesBack m ks q v ps → AxisReinserts m ks q v ps
-  reinserts-of-candidate q ps size c gives =
-      record {
-        count = c .count;
-        range = c .range;
-        whole = whole-of-each m ks q v reduced-least (λ j a b. (one-whole j a b) .0);
-        points =
-            ext-getD (pos 0) (insertedPoints m ks q v) ps (insertedPoints-length m ks q v ∙ c .count)
-            (λ j inside. insertedPoints-at m ks q v j (omega (arith, insertedPoints-length m ks q v)) ∙ entry j (omega (arith, insertedPoints-length m ks q v, c .count)));
-      }
-    where
-      one-whole : (j : ℕ) → insertionSpan ks v < j + m → j ≤ insertionSpan ks v
-          → (divides (weight m ks j) (weightedSum m ks q v j) ≡ true) × (quotZ (weightedSum m ks q v j) (weight m ks j) ≡ pointAt ps j)
-      one-whole j a b =
-          let w = reduced-weighed j a b in
-          let d = getD ks (j + m) 0 - getD ks j 0 in
-          let n = weight-natural m ks q v j (w .low) (w .high) in
-          let e : weightedSum m ks q v j ≡ pointAt ps j *ℤ pos (getD ks (j + m) 0 - getD ks j 0) =
-          gives j a b ∙ ap (λ (z : ℤ). z *ℤ pointAt ps j) n ∙ *ℤ-comm (pos (getD ks (j + m) 0 - getD ks j 0)) (pointAt ps j) in (
-            rw (n, e) (product-divides (pointAt ps j) (getD ks (j + m) 0 - getD ks j 0)),
-            rw (n, e) (quot-of-product (pointAt ps j) (getD ks (j + m) 0 - getD ks j 0) (omega (arith, w .low, w .high))),
-          )
+  -- coordinates on the grid that are the old ones at both sides and give the old ones back between them give all of them back
+  module _ (q ps : List ℤ) (size : length ps ≡ count + 1) (same : length q + 1 ≡ length ps)
+      (left : (j : ℕ) → j + m ≤ insertionSpan ks v → pointAt q j ≡ pointAt ps j)
+      (right : (j : ℕ) → insertionSpan ks v ≤ j → j < length q → pointAt q j ≡ pointAt ps (j + 1)) (gives : GivesBack m ks q v ps) where
+    one-whole : (j : ℕ) → insertionSpan ks v < j + m → j ≤ insertionSpan ks v
+        → (divides (weight m ks j) (weightedSum m ks q v j) ≡ true) × (quotZ (weightedSum m ks q v j) (weight m ks j) ≡ pointAt ps j)
+    one-whole j a b =
+        let w = reduced-weighed j a b in
+        let n = weight-natural m ks q v j (w .low) (w .high) in
+        let e : weightedSum m ks q v j ≡ pointAt ps j *ℤ pos (getD ks (j + m) 0 - getD ks j 0) =
+        gives j a b ∙ ap (λ (z : ℤ). z *ℤ pointAt ps j) n ∙ *ℤ-comm (pos (getD ks (j + m) 0 - getD ks j 0)) (pointAt ps j) in (
+          rw (n, e) (product-divides (pointAt ps j) (getD ks (j + m) 0 - getD ks j 0)),
+          rw (n, e) (quot-of-product (pointAt ps j) (getD ks (j + m) 0 - getD ks j 0) (omega (arith, w .low, w .high))),
+        )
 
-      entry : (j : ℕ) → j ≤ count → insertedPoint m ks q v (insertionSpan ks v) j ≡ pointAt ps j
-      entry j k =
-          either (insertionSpan ks v) (j + m)
-          (λ a. either (insertionSpan ks v) j
-          (λ right.
-          let back : j - 1 + 1 ≡ j = omega arith in
-          point-right m ks q v (insertionSpan ks v) j right
-          ∙ c .right (j - 1) (omega arith) (omega (arith, c .count)) ∙ ap (λ (n : ℕ). pointAt ps n) back)
-          (λ b. point-quotient m ks q v (insertionSpan ks v) j a b ∙ (one-whole j a b) .1))
-          (λ left. point-left m ks q v (insertionSpan ks v) j left ∙ c .left j left)
+    given-at : (j : ℕ) → j ≤ count → insertedPoint m ks q v (insertionSpan ks v) j ≡ pointAt ps j
+    given-at j k =
+        either (insertionSpan ks v) (j + m)
+        (λ a. either (insertionSpan ks v) j
+        (λ behind.
+        let back : j - 1 + 1 ≡ j = omega arith in
+        point-right m ks q v (insertionSpan ks v) j behind
+        ∙ right (j - 1) (omega arith) (omega arith) ∙ ap (λ (n : ℕ). pointAt ps n) back)
+        (λ b. point-quotient m ks q v (insertionSpan ks v) j a b ∙ (one-whole j a b) .1))
+        (λ before. point-left m ks q v (insertionSpan ks v) j before ∙ left j before)
+
+    pub reinserts-of-sides : ((j : ℕ) → natAbs (pointAt q j) ≤ coordinateMost) → AxisReinserts m ks q v ps
+    reinserts-of-sides range =
+        record {
+          count = same;
+          range = range;
+          whole = whole-of-each m ks q v reduced-least (λ j a b. (one-whole j a b) .0);
+          points =
+              ext-getD (pos 0) (insertedPoints m ks q v) ps (insertedPoints-length m ks q v ∙ same)
+              (λ j inside. insertedPoints-at m ks q v j (omega (arith, insertedPoints-length m ks q v)) ∙ given-at j (omega (arith, insertedPoints-length m ks q v)));
+        }

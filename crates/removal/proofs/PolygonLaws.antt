@@ -115,17 +115,17 @@ module _ (m : ℕ) (ts : List ℕ) (xs ys : List ℤ) (v : ℕ) (inner : Inner m
   unfolding knotOrderOk
   fewer-inserted = without-inserted 0 v ts (passes-tests m ts xs ys (inner .passes) .order) (inner .present)
 
-  fewer-length : length (withoutOne v ts) + 1 ≡ length ts
+  pub fewer-length : length (withoutOne v ts) + 1 ≡ length ts
   fewer-length = sym (insertedKnots-length (withoutOne v ts) v) ∙ ap length fewer-inserted
 
   -- a knot of the curve, from the fewer ones
-  knot-before : (j : ℕ) → j < knotsUpTo v (withoutOne v ts) → getD ts j 0 ≡ getD (withoutOne v ts) j 0
+  pub knot-before : (j : ℕ) → j < knotsUpTo v (withoutOne v ts) → getD ts j 0 ≡ getD (withoutOne v ts) j 0
   knot-before j h = ap (λ (l : List ℕ). getD l j 0) (sym fewer-inserted) ∙ insertedKnots-before (withoutOne v ts) v j h
 
-  knot-here : getD ts (knotsUpTo v (withoutOne v ts)) 0 ≡ v
+  pub knot-here : getD ts (knotsUpTo v (withoutOne v ts)) 0 ≡ v
   knot-here = ap (λ (l : List ℕ). getD l (knotsUpTo v (withoutOne v ts)) 0) (sym fewer-inserted) ∙ insertedKnots-here (withoutOne v ts) v
 
-  knot-behind : (j : ℕ) → knotsUpTo v (withoutOne v ts) ≤ j → getD ts (suc j) 0 ≡ getD (withoutOne v ts) j 0
+  pub knot-behind : (j : ℕ) → knotsUpTo v (withoutOne v ts) ≤ j → getD ts (suc j) 0 ≡ getD (withoutOne v ts) j 0
   knot-behind j h = ap (λ (l : List ℕ). getD l (suc j) 0) (sym fewer-inserted) ∙ insertedKnots-behind (withoutOne v ts) v j h
 
   rises : (a b : ℕ) → a ≤ b → b < length ts → getD ts a 0 ≤ getD ts b 0
@@ -137,7 +137,7 @@ module _ (m : ℕ) (ts : List ℕ) (xs ys : List ℤ) (v : ℕ) (inner : Inner m
       either m (knotsUpTo v (withoutOne v ts)) (λ h. h)
       (λ h. absurd (omega (arith, rises (knotsUpTo v (withoutOne v ts)) m h (omega (arith, s .knots)), knot-here, inner .low)))
 
-  fewer-right : knotsUpTo v (withoutOne v ts) < length xs
+  pub fewer-right : knotsUpTo v (withoutOne v ts) < length xs
   fewer-right =
       either (knotsUpTo v (withoutOne v ts)) (length xs) (λ h. h)
       (λ h. absurd (either (length xs) (knotsUpTo v (withoutOne v ts))
