@@ -51,16 +51,18 @@ pub(crate) fn range_ok(xs: &[i32], ys: &[i32]) -> bool
     all_on_grid(ys)
 }
 
+// Looks at every entry, whatever it has seen: a loop with one way out is turned into code for several entries at once.
 fn all_on_grid(zs: &[i32]) -> bool
     ensures answer { λ r. ⌜ r ≡ allOnGrid (now (zs .entry)) ⌝ }
 {
+    let mut fine = true;
     let mut i = 0;
     while i < zs.len() {
         let z = zs[i];
         if !on_grid(z) {
-            return false;
+            fine = false;
         }
         i += 1;
     }
-    true
+    fine
 }

@@ -41,7 +41,9 @@ returns-3 c =
     (test-failed (c .if3 .taken) (c .before .knot-count-ok .ensures))
 
 knot-order-ok-requires : tie.Need-knot-order-ok-requires
-knot-order-ok-requires c κs = search needs
+knot-order-ok-requires c κs =
+    let start = c .before .before .before .before .before .before .before in
+    omega (arith, knots-of-test (start .args .degree) (start .args .knots .now) (start .args .xs .now) (test-passed (c .if3 .left) (c .before .knot-count-ok .ensures)))
 
 returns-4 : tie.Need-returns-4
 returns-4 c =

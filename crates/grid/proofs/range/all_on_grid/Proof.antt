@@ -1,4 +1,6 @@
--- What the whole list says is what the rest says.
+-- What the whole list says is what the flag and the rest say together.
+use mathlib.Core.Bool.{_&&_, and-true, and-false}
+use mathlib.Core.Logic.{⊎-elim}
 use mathlib.Core.Path.{_≡_, refl, sym, _∙_}
 use Prim.Native.Nat.{_≤_, _-_}
 use borrow.Author.Needs.{needs, sfits-of}
@@ -12,10 +14,10 @@ use Rattle.grid.proofs.range.all_on_grid.Statement.{statement}
 use Rattle.grid.proofs.range.all_on_grid.Tie as tie
 
 abbrev Inv-loop : tie.InvT-loop
-Inv-loop zs i₀ i = (i ≤ length zs) × (allOnGrid zs ≡ allOnGrid (drop i zs))
+Inv-loop zs fine₀ i₀ fine i = (i ≤ length zs) × (allOnGrid zs ≡ (fine && allOnGrid (drop i zs)))
 
 abbrev μ-loop : tie.MeasureT-loop
-μ-loop zs i₀ i = length zs - i
+μ-loop zs fine₀ i₀ fine i = length zs - i
 
 loop-holds : tie.Need-loop-holds Inv-loop μ-loop
 loop-holds c = (search needs, refl)
@@ -29,11 +31,6 @@ shared-slice-copy-out-z c = omega arith
 on-grid-requires : tie.Need-on-grid-requires Inv-loop μ-loop
 on-grid-requires c κs = search needs
 
-returns : tie.Need-returns Inv-loop μ-loop
-returns c =
-    let turn = c .before .before .before .before .loop in
-    sym (turn .inv .1 ∙ allOnGrid-fails (c .before .before .before .before .before .args .zs .now) (turn .i) (omega arith) (test-failed (c .if1 .taken) (rw (toZ-ofZ (sfits-of (c .before .before .z .given))) at (c .before .on-grid .ensures))))
-
 add-i : tie.Need-add-i Inv-loop μ-loop
 add-i c = omega arith
 
@@ -43,10 +40,19 @@ loop-less c = omega arith
 loop-again : tie.Need-loop-again Inv-loop μ-loop
 loop-again c =
     let turn = c .before .before .before .before .loop in
-    (omega arith, turn .inv .1 ∙ allOnGrid-on (c .before .before .before .before .before .args .zs .now) (turn .i) (omega arith) (test-passed (c .if1 .left) (rw (toZ-ofZ (sfits-of (c .before .before .z .given))) at (c .before .on-grid .ensures))))
+    let zs = c .before .before .before .before .before .args .zs .now in
+    let test = rw (toZ-ofZ (sfits-of (c .before .before .z .given))) at (c .before .on-grid .ensures) in (
+      omega arith,
+      ⊎-elim
+          (λ w. rw (w .1) (turn .inv .1 ∙ rw (allOnGrid-fails zs (turn .i) (omega arith) (test-failed (w .0 .taken) test)) (and-false (turn .fine))))
+          (λ w. rw (w .1) (turn .inv .1 ∙ rw (allOnGrid-on zs (turn .i) (omega arith) (test-passed (w .0 .left) test))))
+          (c .if1 .came),
+    )
 
-returns-2 : tie.Need-returns-2 Inv-loop μ-loop
-returns-2 c = sym (c .before .loop .inv .1 ∙ allOnGrid-end (c .before .before .args .zs .now) (c .before .loop .i) (omega arith))
+returns : tie.Need-returns Inv-loop μ-loop
+returns c =
+    let turn = c .before .loop in
+    sym (turn .inv .1 ∙ rw (allOnGrid-end (c .before .before .args .zs .now) (turn .i) (omega arith)) (and-true (turn .fine)))
 
 pub all-on-grid-spec : {M : Type 1} → statement M
 all-on-grid-spec =
@@ -58,8 +64,7 @@ all-on-grid-spec =
     mul-z
     shared-slice-copy-out-z
     on-grid-requires
-    returns
     add-i
     loop-less
     loop-again
-    returns-2)
+    returns)
