@@ -1,0 +1,83 @@
+-- Arrays of the largest degree's size, lent as far as this degree needs them.
+use mathlib.Core.Path.{_≡_, sym, _∙_}
+use Prim.Native.Nat.{ℕ, _+_}
+use native.Mathlib.Omega.{arith}
+use lib.ListN.{replicate}
+use lib.IntN.{pos}
+use lib.Seq.{length-take-le}
+use borrow.Author.Needs.{needs}
+use Rattle.window.proofs.remove_middle.Statement.{statement}
+use Rattle.window.proofs.remove_middle.Tie as tie
+
+add-width : tie.Need-add-width
+add-width c = search needs
+
+add-fewer : tie.Need-add-fewer
+add-fewer c = search needs
+
+add-fewer-2 : tie.Need-add-fewer-2
+add-fewer-2 c = search needs
+
+array-borrow-prefix-ks : tie.Need-array-borrow-prefix-ks
+array-borrow-prefix-ks c = search needs
+
+slice-aggregate-remove-through : tie.Need-slice-aggregate-remove-through
+slice-aggregate-remove-through c =
+    let s = c .before .before .before .before .before in
+    let m = s .args .m in
+    sym (length-take-le (m + (m + 1) + 1) (replicate 8 0) (omega (arith, s .pre .most)))
+
+array-borrow-prefix-px : tie.Need-array-borrow-prefix-px
+array-borrow-prefix-px c = search needs
+
+slice-aggregate-remove-through-2 : tie.Need-slice-aggregate-remove-through-2
+slice-aggregate-remove-through-2 c =
+    let s = c .before .before .before .before .before .before in
+    sym (length-take-le (s .args .m + 1) (replicate 4 (pos 0)) (omega (arith, s .pre .most)))
+
+array-borrow-prefix-py : tie.Need-array-borrow-prefix-py
+array-borrow-prefix-py c = search needs
+
+slice-aggregate-remove-through-3 : tie.Need-slice-aggregate-remove-through-3
+slice-aggregate-remove-through-3 c =
+    let s = c .before .before .before .before .before .before .before in
+    sym (length-take-le (s .args .m + 1) (replicate 4 (pos 0)) (omega (arith, s .pre .most)))
+
+remove-through-requires : tie.Need-remove-through-requires
+remove-through-requires c κs =
+    let s = c .before .before .before .before .before .before .before in
+    let m = s .args .m in
+    let ks = length-take-le {A = ℕ} (m + (m + 1) + 1) (replicate 8 0) (omega (arith, s .pre .most)) in
+    let width = length-take-le (m + 1) (replicate 4 (pos 0)) (omega (arith, s .pre .most)) in
+    (s .pre, (ks ∙ (omega arith), (width, width)))
+
+same-length : tie.Need-same-length
+same-length c = search needs
+
+same-length-2 : tie.Need-same-length-2
+same-length-2 c = search needs
+
+same-length-3 : tie.Need-same-length-3
+same-length-3 c = search needs
+
+returns : tie.Need-returns
+returns c = search needs
+
+pub remove-middle-spec : {M : Type 1} → statement M
+remove-middle-spec =
+    tie.close
+    (tie.spec
+    add-width
+    add-fewer
+    add-fewer-2
+    array-borrow-prefix-ks
+    slice-aggregate-remove-through
+    array-borrow-prefix-px
+    slice-aggregate-remove-through-2
+    array-borrow-prefix-py
+    slice-aggregate-remove-through-3
+    remove-through-requires
+    same-length
+    same-length-2
+    same-length-3
+    returns)

@@ -1,0 +1,70 @@
+// One try to remove a knot, in its window: the m + 2 points and 2m + 3 knots round it.
+ghost use mathlib.Core.Path.{_≡_};
+ghost use Prim.Native.Nat.{_+_, _≤_};
+ghost use lib.ListN.{length};
+ghost use Rattle.window.specs.Window.{closed, Window, WindowOutcome};
+
+// The window's knots without the one in the middle.
+fn close(m: usize, knots: &[u16], out: &mut [u16])
+    requires { ⌜ m ≤ 3 ⌝ }
+    requires { ⌜ length (now knots) ≡ m + m + 3 ⌝ }
+    requires { ⌜ length (now out) ≡ m + m + 2 ⌝ }
+    ensures result { λ _. ⌜ now (out .exit) ≡ closed m (now (knots .entry)) ⌝ }
+{
+    let half = m + 1;
+    let behind = m + 2;
+    copying::copy_knots(&knots[..half], out);
+    copying::copy_knots(&knots[behind..], &mut out[half..]);
+}
+
+// The same try with lists for the fewer knots and the new points.
+fn remove_through(
+    m: usize,
+    knots: &mut [u16],
+    xs: &mut [i32],
+    ys: &mut [i32],
+    ks: &mut [u16],
+    px: &mut [i32],
+    py: &mut [i32],
+) -> bool
+    requires { ⌜ Window m (now knots) (now xs) (now ys) ⌝ }
+    requires { ⌜ length (now ks) ≡ m + m + 2 ⌝ }
+    requires { ⌜ length (now px) ≡ m + 1 ⌝ }
+    requires { ⌜ length (now py) ≡ m + 1 ⌝ }
+    ensures answer { λ r. ⌜ WindowOutcome m (now (knots .entry)) (now (xs .entry)) (now (ys .entry)) (now (knots .exit)) (now (xs .exit)) (now (ys .exit)) r ⌝ }
+{
+    let v = knots[m + 1];
+    close(m, knots, ks);
+    if !removal::remove_axis(m, ks, xs, v, m, px) {
+        return false;
+    }
+    if !removal::remove_axis(m, ks, ys, v, m, py) {
+        return false;
+    }
+    copying::copy_knots(ks, knots);
+    copying::copy_coordinates(px, xs);
+    copying::copy_coordinates(py, ys);
+    true
+}
+
+// Removes the knot in the middle: true with the fewer knots and the points that give the old ones back at the window's front,
+// false where there are none and the window is as it was.
+pub fn remove_middle(m: usize, knots: &mut [u16], xs: &mut [i32], ys: &mut [i32]) -> bool
+    requires { ⌜ Window m (now knots) (now xs) (now ys) ⌝ }
+    ensures answer { λ r. ⌜ WindowOutcome m (now (knots .entry)) (now (xs .entry)) (now (ys .entry)) (now (knots .exit)) (now (xs .exit)) (now (ys .exit)) r ⌝ }
+{
+    let mut ks = [0u16; 8];
+    let mut px = [0i32; 4];
+    let mut py = [0i32; 4];
+    let width = m + 1;
+    let fewer = m + width + 1;
+    remove_through(
+        m,
+        knots,
+        xs,
+        ys,
+        &mut ks[..fewer],
+        &mut px[..width],
+        &mut py[..width],
+    )
+}
