@@ -1,4 +1,6 @@
 // The curve that stands in bytes with a sound layout: what the check says of it, and the curve itself.
+mod through;
+
 ghost use mathlib.Core.Path.{_≡_};
 ghost use Prim.Native.Nat.{_+_, _/_, _≤_};
 ghost use lib.ListN.{length};
@@ -37,39 +39,21 @@ pub fn fill(
     fields::read_coordinates(bytes, 13 + knots + xs, ys / 4, out_ys);
 }
 
-// The check's number for the curve, read into lists that are long enough for any.
-fn number_through(
-    bytes: &[u8],
-    knots: usize,
-    xs: usize,
-    ys: usize,
-    ts: &mut [u16],
-    us: &mut [i32],
-    vs: &mut [i32],
-) -> u32
-    requires { ⌜ recordLayout (now bytes) ≡ Sound knots xs ys ⌝ }
-    requires { ⌜ (1028 ≤ length (now ts)) × (1024 ≤ length (now us)) × (1024 ≤ length (now vs)) ⌝ }
-    ensures answer { λ r. ⌜ r
-        ≡ checkNumber (degreeIn (now (bytes .entry))) (knotsIn (now (bytes .entry)) knots) (xsIn (now (bytes .entry)) knots xs)
-        (ysIn (now (bytes .entry)) knots xs ys) ⌝ }
-{
-    fill(bytes, knots, xs, ys, ts, us, vs);
-    let count = knots / 2;
-    let across = xs / 4;
-    let up = ys / 4;
-    let degree = degree_in(bytes);
-    grid::check(degree, &ts[..count], &us[..across], &vs[..up])
-}
-
-// The check's number for the curve that stands in the bytes.
+// The check's number for the curve that stands in the bytes, read through the shortest lists that hold it.
 pub fn curve_number(bytes: &[u8], knots: usize, xs: usize, ys: usize) -> u32
     requires { ⌜ recordLayout (now bytes) ≡ Sound knots xs ys ⌝ }
     ensures answer { λ r. ⌜ r
         ≡ checkNumber (degreeIn (now (bytes .entry))) (knotsIn (now (bytes .entry)) knots) (xsIn (now (bytes .entry)) knots xs)
         (ysIn (now (bytes .entry)) knots xs ys) ⌝ }
 {
-    let mut ts = [0u16; 1028];
-    let mut us = [0i32; 1024];
-    let mut vs = [0i32; 1024];
-    number_through(bytes, knots, xs, ys, &mut ts, &mut us, &mut vs)
+    if through::lists_hold(through::SHORT, knots, xs, ys) {
+        return through::number_short(bytes, knots, xs, ys);
+    }
+    if through::lists_hold(through::MIDDLE, knots, xs, ys) {
+        return through::number_middle(bytes, knots, xs, ys);
+    }
+    if through::lists_hold(through::LONG, knots, xs, ys) {
+        return through::number_long(bytes, knots, xs, ys);
+    }
+    through::number_longest(bytes, knots, xs, ys)
 }

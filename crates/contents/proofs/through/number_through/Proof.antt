@@ -1,4 +1,4 @@
--- `contents::number_through` meets its contract: the front of each filled list is the list that stands in the bytes.
+-- `contents::through::number_through` meets its contract: the front of each filled list is the list that stands in the bytes.
 use mathlib.Core.Path.{_≡_, ap, _∙_}
 use mathlib.Core.List.{List}
 use Prim.Native.Nat.{ℕ, _+_, _/_}
@@ -9,11 +9,11 @@ use Rattle.fields.specs.Places.{u16At, i32At, entriesAt}
 use Rattle.fields.proofs.PlaceLaws.{length-entriesAt}
 use Rattle.grid.specs.Check.{checkNumber}
 use Rattle.lent.specs.Lent.{over}
-use Rattle.layout.proofs.SplitLaws.{Within, layout-within, layout-inside}
+use Rattle.layout.proofs.SplitLaws.{layout-inside}
 use native.Mathlib.Omega.{arith}
 use borrow.Author.Needs.{needs}
-use Rattle.contents.proofs.number_through.Statement.{statement}
-use Rattle.contents.proofs.number_through.Tie as tie
+use Rattle.contents.proofs.through.number_through.Statement.{statement}
+use Rattle.contents.proofs.through.number_through.Tie as tie
 
 same : {m m₁ : ℕ} {ts ts₁ : List ℕ} {xs xs₁ ys ys₁ : List ℤ} → m ≡ m₁ → ts ≡ ts₁ → xs ≡ xs₁ → ys ≡ ys₁
     → checkNumber m ts xs ys ≡ checkNumber m₁ ts₁ xs₁ ys₁
@@ -25,13 +25,8 @@ front : {A : Type 0} (read : ℕ → A) (width at count : ℕ) (before now : Lis
 front read width at count before now e =
     ap (take count) e ∙ take-at (entriesAt read width at count) (drop (length (entriesAt read width at count)) before) count (length-entriesAt read width at count)
 
-within : (s : tie.Start) → Within (s .args .knots) (s .args .xs) (s .args .ys)
-within s = layout-within (s .args .bytes .now) (s .args .knots) (s .args .xs) (s .args .ys) (s .pre .0)
-
 fill-requires : tie.Need-fill-requires
-fill-requires c κs =
-    let s = c .before .before .before .before .before in
-    (s .pre .0, omega (arith, within s, s .pre .1))
+fill-requires c κs = c .before .before .before .before .before .pre
 
 degree-in-requires : tie.Need-degree-in-requires
 degree-in-requires c κs =
@@ -39,22 +34,22 @@ degree-in-requires c κs =
     omega (arith, layout-inside (s .args .bytes .now) (s .args .knots) (s .args .xs) (s .args .ys) (s .pre .0))
 
 slice-reshare-prefix-check : tie.Need-slice-reshare-prefix-check
-slice-reshare-prefix-check c = omega (arith, within (c .before .before .before .before .before .before .before .before .before .before .before), c .before .before .before .before .before .before .before .before .before .before .before .pre .1, c .before .before .before .before .before .fill .kept)
+slice-reshare-prefix-check c = omega (arith, c .before .before .before .before .before .before .before .before .before .before .before .pre .1, c .before .before .before .before .before .fill .kept)
 
 slice-aggregate-check : tie.Need-slice-aggregate-check
-slice-aggregate-check c = simp length-take (omega (arith, within (c .before .before .before .before .before .before .before .before .before .before .before .before), c .before .before .before .before .before .before .before .before .before .before .before .before .pre .1, c .before .before .before .before .before .before .fill .kept))
+slice-aggregate-check c = simp length-take (omega (arith, c .before .before .before .before .before .before .before .before .before .before .before .before .pre .1, c .before .before .before .before .before .before .fill .kept))
 
 slice-reshare-prefix-check-2 : tie.Need-slice-reshare-prefix-check-2
-slice-reshare-prefix-check-2 c = omega (arith, within (c .before .before .before .before .before .before .before .before .before .before .before .before), c .before .before .before .before .before .before .before .before .before .before .before .before .pre .1, c .before .before .before .before .before .before .fill .kept)
+slice-reshare-prefix-check-2 c = omega (arith, c .before .before .before .before .before .before .before .before .before .before .before .before .pre .1, c .before .before .before .before .before .before .fill .kept)
 
 slice-aggregate-check-2 : tie.Need-slice-aggregate-check-2
-slice-aggregate-check-2 c = simp length-take (omega (arith, within (c .before .before .before .before .before .before .before .before .before .before .before .before .before), c .before .before .before .before .before .before .before .before .before .before .before .before .before .pre .1, c .before .before .before .before .before .before .before .fill .kept))
+slice-aggregate-check-2 c = simp length-take (omega (arith, c .before .before .before .before .before .before .before .before .before .before .before .before .before .pre .1, c .before .before .before .before .before .before .before .fill .kept))
 
 slice-reshare-prefix-check-3 : tie.Need-slice-reshare-prefix-check-3
-slice-reshare-prefix-check-3 c = omega (arith, within (c .before .before .before .before .before .before .before .before .before .before .before .before .before), c .before .before .before .before .before .before .before .before .before .before .before .before .before .pre .1, c .before .before .before .before .before .before .before .fill .kept)
+slice-reshare-prefix-check-3 c = omega (arith, c .before .before .before .before .before .before .before .before .before .before .before .before .before .pre .1, c .before .before .before .before .before .before .before .fill .kept)
 
 slice-aggregate-check-3 : tie.Need-slice-aggregate-check-3
-slice-aggregate-check-3 c = simp length-take (omega (arith, within (c .before .before .before .before .before .before .before .before .before .before .before .before .before .before), c .before .before .before .before .before .before .before .before .before .before .before .before .before .before .pre .1, c .before .before .before .before .before .before .before .before .fill .kept))
+slice-aggregate-check-3 c = simp length-take (omega (arith, c .before .before .before .before .before .before .before .before .before .before .before .before .before .before .pre .1, c .before .before .before .before .before .before .before .before .fill .kept))
 
 check-requires : tie.Need-check-requires
 check-requires c κs = search needs
