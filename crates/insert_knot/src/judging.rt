@@ -1,17 +1,19 @@
-// Why an insertion is refused: 1 to 7, then 9, 10, 11, 15.
+// Why an insertion into a curve that has passed the check is refused: 9, 10, 11, 15.
 ghost use mathlib.Core.Path.{_≡_};
-ghost use Prim.Native.Nat.{_≤_};
+ghost use Prim.Native.Nat.{_<_};
+ghost use lib.ListN.{length, getD};
 ghost use Rattle.grid.specs.Check.{Passes};
-ghost use Rattle.insertion.specs.Judged.{judgedInsertion, insertionNumber, wholeOk, roomOk};
+ghost use Rattle.insertion.specs.Insertion.{knotsUpTo, insertionSpan};
+ghost use Rattle.insertion.specs.Judged.{judgedInsertion, wholeOk, roomOk};
 ghost use Rattle.insertion.specs.Standing.{Insertable};
 
 // Whether every new coordinate is whole, on both axes.
-pub(crate) fn whole_ok(m: usize, knots: &[u16], xs: &[i32], ys: &[i32], v: u16) -> bool
+pub(crate) fn whole_ok(m: usize, knots: &[u16], xs: &[i32], ys: &[i32], v: u16, i: usize) -> bool
     requires { ⌜ Insertable m (now knots) (now xs) v ⌝ }
     requires { ⌜ Insertable m (now knots) (now ys) v ⌝ }
+    requires { ⌜ i ≡ insertionSpan (now knots) v ⌝ }
     ensures answer { λ r. ⌜ r ≡ wholeOk m (now (knots .entry)) (now (xs .entry)) (now (ys .entry)) v ⌝ }
 {
-    let i = insertion::knots_up_to(knots, v) - 1;
     if !insertion::whole_points(m, knots, xs, v, i) {
         return false;
     }
@@ -38,60 +40,35 @@ pub(crate) fn room_ok(
     ys.len() < room_ys
 }
 
-// 9, 10, 11 or 15, or 0, for a curve that has passed the check.
-pub(crate) fn judge_checked(
+// The number of inserting v behind the first `at` knots, where v lies between the domain's ends.
+pub(crate) fn judge_at(
     m: usize,
     knots: &[u16],
     xs: &[i32],
     ys: &[i32],
-    v: u32,
+    v: u16,
+    at: usize,
     room_knots: usize,
     room_xs: usize,
     room_ys: usize,
 ) -> u32
     requires { ⌜ Passes m (now knots) (now xs) (now ys) ⌝ }
+    requires { ⌜ getD (now knots) m 0 < v ⌝ }
+    requires { ⌜ v < getD (now knots) (length (now xs)) 0 ⌝ }
+    requires { ⌜ at ≡ knotsUpTo v (now knots) ⌝ }
     ensures answer { λ r. ⌜ r ≡ judgedInsertion m (now (knots .entry)) (now (xs .entry)) (now (ys .entry)) v «room_knots» «room_xs» «room_ys» ⌝ }
 {
-    if !crate::value::value_ok(m, knots, xs, v) {
+    if crate::value::stands_often(m, knots, v, at) {
         return refusal::INSERTION;
     }
     if grid::POINTS_MOST <= xs.len() {
         return refusal::FULL;
     }
-    if !whole_ok(m, knots, xs, ys, v as u16) {
+    if !whole_ok(m, knots, xs, ys, v, at - 1) {
         return refusal::NOT_WHOLE;
     }
     if !room_ok(knots, xs, ys, room_knots, room_xs, room_ys) {
         return refusal::ROOM;
     }
     refusal::ACCEPTED
-}
-
-// The number of the insertion.
-pub(crate) fn judge(
-    degree: u32,
-    knots: &[u16],
-    xs: &[i32],
-    ys: &[i32],
-    v: u32,
-    room_knots: usize,
-    room_xs: usize,
-    room_ys: usize,
-) -> u32
-    ensures answer { λ r. ⌜ r ≡ insertionNumber degree (now (knots .entry)) (now (xs .entry)) (now (ys .entry)) v «room_knots» «room_xs» «room_ys» ⌝ }
-{
-    let number = grid::check(degree, knots, xs, ys);
-    if number != refusal::ACCEPTED {
-        return number;
-    }
-    judge_checked(
-        degree as usize,
-        knots,
-        xs,
-        ys,
-        v,
-        room_knots,
-        room_xs,
-        room_ys,
-    )
 }

@@ -1,4 +1,5 @@
 // Inserting a knot into a curve ("Inserting and removing a knot"): the call, for any input.
+mod inserting;
 mod judging;
 mod value;
 mod writing;
@@ -30,28 +31,9 @@ pub fn insert_knot(
     ensures answer { λ r. ⌜ r ≡ insertAnswer (insertionNumber degree (now (knots .entry)) (now (xs .entry)) (now (ys .entry)) v (length (now («out_knots» .entry))) (length (now («out_xs» .entry))) (length (now («out_ys» .entry)))) (length (now (xs .entry)) + 1) ⌝ }
     ensures result { λ _. ⌜ InsertedLists (insertionNumber degree (now (knots .entry)) (now (xs .entry)) (now (ys .entry)) v (length (now («out_knots» .entry))) (length (now («out_xs» .entry))) (length (now («out_ys» .entry)))) degree (now (knots .entry)) (now (xs .entry)) (now (ys .entry)) v (now («out_knots» .entry)) (now («out_xs» .entry)) (now («out_ys» .entry)) (now («out_knots» .exit)) (now («out_xs» .exit)) (now («out_ys» .exit)) ⌝ }
 {
-    let number = judging::judge(
-        degree,
-        knots,
-        xs,
-        ys,
-        v,
-        out_knots.len(),
-        out_xs.len(),
-        out_ys.len(),
-    );
+    let number = grid::check(degree, knots, xs, ys);
     if number != refusal::ACCEPTED {
         return InsertAnswer::Refused(number);
     }
-    writing::write(
-        degree as usize,
-        knots,
-        xs,
-        ys,
-        v as u16,
-        out_knots,
-        out_xs,
-        out_ys,
-    );
-    InsertAnswer::Inserted(xs.len() + 1)
+    inserting::insert_checked(degree as usize, knots, xs, ys, v, out_knots, out_xs, out_ys)
 }

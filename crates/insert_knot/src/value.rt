@@ -1,32 +1,11 @@
 // Which values can be inserted (row 9).
-ghost use mathlib.Core.Bool.{cond};
+ghost use mathlib.Core.Bool.{_&&_, true};
 ghost use mathlib.Core.Path.{_≡_};
 ghost use Prim.Native.Nat.{_≤_, _<_};
-ghost use lib.Dec.{eqb};
-ghost use lib.ListN.{length};
-ghost use Rattle.grid.specs.Rows.{occurrences};
-ghost use Rattle.insertion.specs.Judged.{valueOk};
-
-// 1 where the knot is v, else 0.
-fn one_if(t: u16, v: u32) -> usize
-    ensures answer { λ r. ⌜ r ≡ cond (eqb t v) 1 0 ⌝ }
-    ensures most { λ r. ⌜ r ≤ 1 ⌝ }
-{
-    if (t as u32) == v { 1 } else { 0 }
-}
-
-// How often v stands in the knots.
-pub(crate) fn occurrences_of(knots: &[u16], v: u32) -> usize
-    ensures answer { λ r. ⌜ r ≡ occurrences v (now (knots .entry)) ⌝ }
-{
-    let mut count = 0;
-    let mut i = 0;
-    while i < knots.len() {
-        count += one_if(knots[i], v);
-        i += 1;
-    }
-    count
-}
+ghost use lib.Dec.{ltb, leb};
+ghost use lib.ListN.{length, getD};
+ghost use Rattle.grid.specs.Rows.{knotOrderOk, occurrences};
+ghost use Rattle.insertion.specs.Insertion.{knotsUpTo};
 
 // A knot, 32 bits wide.
 fn wide(t: u16) -> u32
@@ -35,19 +14,27 @@ fn wide(t: u16) -> u32
     t as u32
 }
 
-// Whether v lies strictly between the domain's ends and stands there fewer than m times.
-pub(crate) fn value_ok(m: usize, knots: &[u16], xs: &[i32], v: u32) -> bool
+// Whether v lies strictly between the domain's ends.
+pub(crate) fn lies_inside(m: usize, knots: &[u16], xs: &[i32], v: u32) -> bool
     requires { ⌜ m < length (now knots) ⌝ }
     requires { ⌜ length (now xs) < length (now knots) ⌝ }
-    ensures answer { λ r. ⌜ r ≡ valueOk m (now (knots .entry)) (now (xs .entry)) v ⌝ }
+    ensures answer { λ r. ⌜ r ≡ (ltb (getD (now (knots .entry)) m 0) v && ltb v (getD (now (knots .entry)) (length (now (xs .entry))) 0)) ⌝ }
 {
     let low = wide(knots[m]);
     let high = wide(knots[xs.len()]);
     if v <= low {
         return false;
     }
-    if high <= v {
-        return false;
-    }
-    occurrences_of(knots, v) < m
+    v < high
+}
+
+// Whether v stands m times or more, where `at` knots are up to v. The knots never fall, so that one knot tells.
+pub(crate) fn stands_often(m: usize, knots: &[u16], v: u16, at: usize) -> bool
+    requires { ⌜ knotOrderOk (now knots) ≡ true ⌝ }
+    requires { ⌜ at ≡ knotsUpTo v (now knots) ⌝ }
+    requires { ⌜ 1 ≤ m ⌝ }
+    requires { ⌜ m ≤ at ⌝ }
+    ensures answer { λ r. ⌜ r ≡ leb m (occurrences v (now (knots .entry))) ⌝ }
+{
+    knots[at - m] == v
 }

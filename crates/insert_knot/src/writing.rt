@@ -3,22 +3,24 @@ ghost use mathlib.Core.Path.{_≡_};
 ghost use Prim.Native.Nat.{_+_, _≤_};
 ghost use lib.ListN.{length};
 ghost use Rattle.lent.specs.Lent.{over};
-ghost use Rattle.insertion.specs.Insertion.{insertedKnots, insertedPoints};
+ghost use Rattle.insertion.specs.Insertion.{knotsUpTo, insertedKnots, insertedPoints};
 ghost use Rattle.insertion.specs.Standing.{Insertable};
 
-// The new knots, x and y.
+// The new knots, x and y, where v stands behind the first `at` knots.
 pub(crate) fn write(
     m: usize,
     knots: &[u16],
     xs: &[i32],
     ys: &[i32],
     v: u16,
+    at: usize,
     out_knots: &mut [u16],
     out_xs: &mut [i32],
     out_ys: &mut [i32],
 )
     requires { ⌜ Insertable m (now knots) (now xs) v ⌝ }
     requires { ⌜ Insertable m (now knots) (now ys) v ⌝ }
+    requires { ⌜ at ≡ knotsUpTo v (now knots) ⌝ }
     requires { ⌜ length (now knots) + 1 ≤ length (now «out_knots») ⌝ }
     requires { ⌜ length (now xs) + 1 ≤ length (now «out_xs») ⌝ }
     requires { ⌜ length (now ys) + 1 ≤ length (now «out_ys») ⌝ }
@@ -26,8 +28,8 @@ pub(crate) fn write(
     ensures xs { λ _. ⌜ now («out_xs» .exit) ≡ over (insertedPoints m (now (knots .entry)) (now (xs .entry)) v) (now («out_xs» .entry)) ⌝ }
     ensures ys { λ _. ⌜ now («out_ys» .exit) ≡ over (insertedPoints m (now (knots .entry)) (now (ys .entry)) v) (now («out_ys» .entry)) ⌝ }
 {
-    let i = insertion::knots_up_to(knots, v) - 1;
-    insertion::insert_value(knots, v, out_knots);
+    let i = at - 1;
+    insertion::insert_value(knots, v, at, out_knots);
     insertion::insert_points(m, knots, xs, v, i, out_xs);
     insertion::insert_points(m, knots, ys, v, i, out_ys);
 }

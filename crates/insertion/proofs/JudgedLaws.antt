@@ -1,38 +1,37 @@
 -- The number of an insertion, test by test, and what an accepted insertion says of its input.
-use mathlib.Core.Bool.{Bool, true, false, cond, _&&_}
+use mathlib.Core.Bool.{true, false, _&&_}
 use mathlib.Core.List.{List}
-use mathlib.Core.Path.{_≡_, refl, sym, _∙_}
+use mathlib.Core.Path.{_≡_, sym, _∙_}
 use Prim.Native.Nat.{ℕ, _+_, _≤_, _<_}
 use native.Mathlib.Decide.{ℕ-discrete}
 use native.Mathlib.Omega.{arith}
 use lib.Dec.{ltb, leb}
 use lib.IntN.{ℤ}
 use lib.ListN.{length, getD}
-use borrow.Author.Tests.{lt-ltb, le-ltb, le-leb, lt-leb, ltb-true, leb-true}
-use Rattle.refusal.specs.Judging.{unless}
+use borrow.Author.Tests.{lt-ltb, le-ltb, le-leb, lt-leb, leb-true, leb-false}
 use Rattle.refusal.proofs.JudgingLaws.{unless-accepted}
 use Rattle.refusal.specs.Numbers.{accepted, insertionRefused, fullRefused, notWholeRefused, roomRefused}
-use Rattle.grid.specs.Limits.{pointsMost}
 use Rattle.grid.specs.Rows.{occurrences}
-use Rattle.grid.specs.Check.{Passes, checkNumber, checkedThen}
+use Rattle.grid.specs.Check.{Passes, checkNumber}
 use Rattle.grid.proofs.OrderLaws.{both}
 use Rattle.grid.proofs.ThenLaws.{checkedThen-passed, checkedThen-refused}
-use Rattle.insertion.specs.Insertion.{wholePoints}
 use Rattle.insertion.specs.Judged.{valueOk, placeOk, wholeOk, roomOk, judgedInsertion, insertionNumber}
 
--- row 9, one comparison after the other
+-- row 9: between the domain's ends, and not there m times
 module _ (m : ℕ) (ts : List ℕ) (xs : List ℤ) (v : ℕ) where
-  pub value-low : v ≤ getD ts m 0 → false ≡ valueOk m ts xs v
+  pub value-outside : (ltb (getD ts m 0) v && ltb v (getD ts (length xs) 0)) ≡ false → valueOk m ts xs v ≡ false
   unfolding valueOk
-  value-low h = rw (le-ltb (getD ts m 0) v h)
+  value-outside h = rw h
 
-  pub value-high : getD ts m 0 < v → getD ts (length xs) 0 ≤ v → false ≡ valueOk m ts xs v
-  unfolding valueOk
-  value-high h k = rw (lt-ltb (getD ts m 0) v h, le-ltb v (getD ts (length xs) 0) k)
-
-  pub value-inside : getD ts m 0 < v → v < getD ts (length xs) 0 → ltb (occurrences v ts) m ≡ valueOk m ts xs v
+  value-inside : getD ts m 0 < v → v < getD ts (length xs) 0 → valueOk m ts xs v ≡ ltb (occurrences v ts) m
   unfolding valueOk
   value-inside h k = rw (lt-ltb (getD ts m 0) v h, lt-ltb v (getD ts (length xs) 0) k)
+
+  pub value-often : getD ts m 0 < v → v < getD ts (length xs) 0 → leb m (occurrences v ts) ≡ true → valueOk m ts xs v ≡ false
+  value-often h k e = value-inside h k ∙ le-ltb (occurrences v ts) m (leb-true m (occurrences v ts) e)
+
+  pub value-seldom : getD ts m 0 < v → v < getD ts (length xs) 0 → leb m (occurrences v ts) ≡ false → valueOk m ts xs v ≡ true
+  value-seldom h k e = value-inside h k ∙ lt-ltb (occurrences v ts) m (leb-false m (occurrences v ts) e)
 
 -- row 15, one list after the other
 module _ (ts : List ℕ) (xs ys : List ℤ) (roomKnots roomXs roomYs : ℕ) where
@@ -96,7 +95,8 @@ module _ (m : ℕ) (ts : List ℕ) (xs ys : List ℤ) (v roomKnots roomXs roomYs
   unfolding insertionNumber
   number-passed h = checkedThen-passed m ts xs ys judged h
 
-  tests-of-judged : Passes m ts xs ys → judged ≡ 0 → Accepted m ts xs ys v roomKnots roomXs roomYs
+  -- judged 0 after the check: every test passed
+  pub tests-of-judged : Passes m ts xs ys → judged ≡ 0 → Accepted m ts xs ys v roomKnots roomXs roomYs
   unfolding judgedInsertion
   tests-of-judged passes e =
       let a = unless-accepted (valueOk m ts xs v) 8 _ e in

@@ -2,6 +2,7 @@
 pub mod OrderLaws
 pub mod MeanLaws
 pub mod WriteLaws
+pub mod PartLaws
 pub mod SpanLaws
 pub mod KnotLaws
 pub mod QuotientLaws

@@ -6,7 +6,7 @@ ghost use lib.ListN.{length, getD};
 ghost use lib.Signed.{quotZ};
 ghost use Rattle.lent.specs.Lent.{over};
 ghost use Rattle.signed.specs.Division.{divides};
-ghost use Rattle.insertion.specs.Insertion.{knotsUpTo, insertionSpan, insertedKnots, insertedPoint, insertedPoints, weightedSum, weight, wholePoints};
+ghost use Rattle.insertion.specs.Insertion.{knotsUpTo, insertionSpan, insertedKnots, insertedPoints, weightedSum, weight, wholePoints};
 ghost use Rattle.insertion.specs.Standing.{Weighed, Insertable};
 
 // left·p + right·q: at most 2^48 either way, so nothing wraps.
@@ -91,63 +91,40 @@ pub fn whole_points(m: usize, knots: &[u16], ps: &[i32], v: u16, i: usize) -> bo
     true
 }
 
-// Q_j.
-pub fn inserted_point(m: usize, knots: &[u16], ps: &[i32], v: u16, i: usize, j: usize) -> i32
+// Q_j, for a j from i-m+1 to i.
+pub fn quotient_at(m: usize, knots: &[u16], ps: &[i32], v: u16, j: usize) -> i32
     requires { ⌜ Insertable m (now knots) (now ps) v ⌝ }
-    requires { ⌜ i ≡ insertionSpan (now knots) v ⌝ }
-    requires { ⌜ j ≤ length (now ps) ⌝ }
-    ensures answer { λ r. ⌜ r ≡ insertedPoint m (now (knots .entry)) (now (ps .entry)) v i j ⌝ }
+    requires { ⌜ Weighed m (now knots) (length (now ps)) v j ⌝ }
+    ensures answer { λ r. ⌜ r ≡ quotZ (weightedSum m (now (knots .entry)) (now (ps .entry)) v j) (weight m (now (knots .entry)) j) ⌝ }
 {
-    if j + m <= i {
-        return ps[j];
-    }
-    let behind = i + 1;
-    if behind <= j {
-        return ps[j - 1];
-    }
     quotient(weighted_sum_at(m, knots, ps, v, j), weight_at(m, knots, j))
 }
 
-// All of Q, written to `out`.
+// All of Q, written to `out`: the points in front of the quotients, the quotients, and the points behind them.
 pub fn insert_points(m: usize, knots: &[u16], ps: &[i32], v: u16, i: usize, out: &mut [i32])
     requires { ⌜ Insertable m (now knots) (now ps) v ⌝ }
     requires { ⌜ i ≡ insertionSpan (now knots) v ⌝ }
     requires { ⌜ length (now ps) + 1 ≤ length (now out) ⌝ }
     ensures result { λ _. ⌜ now (out .exit) ≡ over (insertedPoints m (now (knots .entry)) (now (ps .entry)) v) (now (out .entry)) ⌝ }
 {
-    let n = ps.len();
-    let mut j = 0;
-    while j <= n {
-        out[j] = inserted_point(m, knots, ps, v, i, j);
+    let front = i + 1 - m;
+    copying::copy_coordinates(&ps[..front], out);
+    let mut j = front;
+    while j <= i {
+        out[j] = quotient_at(m, knots, ps, v, j);
         j += 1;
     }
+    let behind = i + 1;
+    copying::copy_coordinates(&ps[behind - 1..], &mut out[behind..]);
 }
 
-// The new knot at j, where the first `at` old knots stand before v.
-pub fn inserted_knot(knots: &[u16], v: u16, at: usize, j: usize) -> u16
+// The knots with v among them, behind the first `at` of them, written to `out`.
+pub fn insert_value(knots: &[u16], v: u16, at: usize, out: &mut [u16])
     requires { ⌜ at ≡ knotsUpTo v (now knots) ⌝ }
-    requires { ⌜ j ≤ length (now knots) ⌝ }
-    ensures answer { λ r. ⌜ r ≡ getD (insertedKnots (now (knots .entry)) v) j 0 ⌝ }
-{
-    if j < at {
-        return knots[j];
-    }
-    if at < j {
-        return knots[j - 1];
-    }
-    v
-}
-
-// The knots with v among them, written to `out`.
-pub fn insert_value(knots: &[u16], v: u16, out: &mut [u16])
     requires { ⌜ length (now knots) + 1 ≤ length (now out) ⌝ }
     ensures result { λ _. ⌜ now (out .exit) ≡ over (insertedKnots (now (knots .entry)) v) (now (out .entry)) ⌝ }
 {
-    let at = knots_up_to(knots, v);
-    let n = knots.len();
-    let mut j = 0;
-    while j <= n {
-        out[j] = inserted_knot(knots, v, at, j);
-        j += 1;
-    }
+    copying::copy_knots(&knots[..at], out);
+    out[at] = v;
+    copying::copy_knots(&knots[at..], &mut out[at + 1..]);
 }

@@ -1,66 +1,181 @@
--- The invariant: the first j entries are stored.
-use mathlib.Core.Path.{_≡_, sym, _∙_}
+-- The points in front are copied, the quotients are stored one by one (the invariant), and the points behind are copied.
+use mathlib.Core.Path.{_≡_, sym, ap, _∙_}
 use Prim.Native.Nat.{_+_, _-_, _≤_}
 use native.Mathlib.Omega.{arith}
+use borrow.Author.Needs.{needs}
 use lib.IntN.{pos}
-use lib.ListN.{length}
+use lib.ListN.{length, take, drop}
+use lib.Seq.{length-take-le}
 use mir.Syntax.{w32}
 use mir.ValLaws.{toZ-ofZ}
-use Rattle.insertion.specs.Insertion.{insertedPoints}
-use Rattle.insertion.proofs.WriteLaws.{Stored, stored-none, stored-more, stored-length, stored-all}
-use Rattle.insertion.proofs.PointLaws.{insertedPoints-length, insertedPoints-at}
+use Rattle.lent.proofs.OverLaws.{over-length}
+use Rattle.insertion.specs.Insertion.{insertionSpan, insertedPoints}
+use Rattle.insertion.proofs.WriteLaws.{Stored, stored-more, stored-length}
+use Rattle.insertion.proofs.PartLaws.{ends-inside, stored-anew, stored-since, rest-copied}
+use Rattle.insertion.proofs.SpanLaws.{span-least, span-most, span-weighed}
+use Rattle.insertion.proofs.PointLaws.{insertedPoints-length, insertedPoints-at, point-quotient, points-stored, points-rest}
 use Rattle.insertion.proofs.insert_points.Statement.{statement}
 use Rattle.insertion.proofs.insert_points.Tie as tie
 
 abbrev Inv-loop : tie.InvT-loop
-Inv-loop m knots ps v i out₀ n j₀ out j = Stored (insertedPoints m knots ps v) out₀ out j
+Inv-loop m knots ps v i out₀ front j₀ out j =
+    (i + 1 - m ≤ j) × (j ≤ i + 1) × Stored (insertedPoints m knots ps v) out₀ out j
 
 abbrev μ-loop : tie.MeasureT-loop
-μ-loop m knots ps v i out₀ n j₀ out j = n + 1 - j
+μ-loop m knots ps v i out₀ front j₀ out j = i + 1 - j
 
--- the number of new points
-count : (c : tie.At-loop Inv-loop μ-loop) → length (insertedPoints (c .before .before .args .m) (c .before .before .args .knots .now) (c .before .before .args .ps .now) (c .before .before .args .v)) ≡ length (c .before .before .args .ps .now) + 1
-count c = let a = c .before .before .args in insertedPoints-length (a .m) (a .knots .now) (a .ps .now) (a .v)
+add-front : tie.Need-add-front Inv-loop μ-loop
+add-front c =
+    let a = c .before .args in
+    omega (arith, span-most (a .m) (a .knots .now) (a .ps .now) (a .v) (c .before .pre .0))
+
+sub-front : tie.Need-sub-front Inv-loop μ-loop
+sub-front c =
+    let a = c .before .args in
+    omega (arith, span-least (a .m) (a .knots .now) (a .ps .now) (a .v) (c .before .pre .0))
+
+slice-aggregate-copy-coordinates : tie.Need-slice-aggregate-copy-coordinates Inv-loop μ-loop
+slice-aggregate-copy-coordinates c =
+    let s = c .before .before in
+    let a = s .args in
+    sym (length-take-le (a .i + 1 - a .m) (a .ps .now) (omega (arith, span-most (a .m) (a .knots .now) (a .ps .now) (a .v) (s .pre .0), s .pre .0 .degree, s .pre .1 .0)))
+
+copy-coordinates-requires : tie.Need-copy-coordinates-requires Inv-loop μ-loop
+copy-coordinates-requires c κs = search needs
+
+-- the points in front are stored
+front-stored : (c : tie.After-out Inv-loop μ-loop) → Stored (insertedPoints (c .before .before .before .before .before .args .m) (c .before .before .before .before .before .args .knots .now) (c .before .before .before .before .before .args .ps .now) (c .before .before .before .before .before .args .v)) (c .before .before .before .before .before .args .out .now) (c .before .copy-coordinates .last .1 .0) (c .before .before .before .before .before .args .i + 1 - c .before .before .before .before .before .args .m)
+front-stored c =
+    let s = c .before .before .before .before .before in
+    let a = s .args in
+    points-stored (a .m) (a .knots .now) (a .ps .now) (a .v) (a .i) (s .pre .0) (s .pre .1 .0) (a .out .now) (c .before .copy-coordinates .last .1 .0) (s .pre .1 .1) (c .before .copy-coordinates .ensures)
 
 loop-holds : tie.Need-loop-holds Inv-loop μ-loop
 loop-holds c =
-    let a = c .before .args in
-    let result = insertedPoints (a .m) (a .knots .now) (a .ps .now) (a .v) in
-    stored-none result (a .out .now) (omega (arith, insertedPoints-length (a .m) (a .knots .now) (a .ps .now) (a .v), c .before .pre))
+    let s = c .before .before .before .before .before in
+    (omega arith, omega (arith, s .pre .0 .degree), stored-anew (front-stored c))
 
-inserted-point-requires : tie.Need-inserted-point-requires Inv-loop μ-loop
-inserted-point-requires c κs = (c .before .before .before .pre .0, (c .before .before .before .pre .1 .0, omega arith))
+quotient-at-requires : tie.Need-quotient-at-requires Inv-loop μ-loop
+quotient-at-requires c κs =
+    let s = c .before .before .before .before .before .before .before in
+    let a = s .args in (
+      s .pre .0,
+      span-weighed (a .m) (a .knots .now) (a .ps .now) (a .v) (s .pre .0) (c .before .loop .j)
+          (omega (arith, c .before .loop .inv .0, s .pre .1 .0)) (omega (arith, c .loop-test .taken, s .pre .1 .0)),
+    )
 
-mul-t11 : tie.Need-mul-t11 Inv-loop μ-loop
-mul-t11 c =
-    let b = c .before .before in
-    omega (arith, b .loop .inv .room, count b, stored-length (b .loop .inv), c .before .loop-test .taken, b .before .before .good)
+mul-t18 : tie.Need-mul-t18 Inv-loop μ-loop
+mul-t18 c =
+    let s = c .before .before .before .before .before .before .before .before in
+    let a = s .args in
+    omega (arith, c .before .loop-test .taken, span-most (a .m) (a .knots .now) (a .ps .now) (a .v) (s .pre .0), s .pre .1 .0)
 
 slice-set-from-out : tie.Need-slice-set-from-out Inv-loop μ-loop
 slice-set-from-out c =
-    let b = c .before .before in
-    omega (arith, b .loop .inv .room, count b, stored-length (b .loop .inv), c .before .loop-test .taken)
+    let s = c .before .before .before .before .before .before .before .before in
+    let a = s .args in
+    let l = c .before .before .loop in
+    omega (arith, c .before .loop-test .taken, span-most (a .m) (a .knots .now) (a .ps .now) (a .v) (s .pre .0), s .pre .1 .0, insertedPoints-length (a .m) (a .knots .now) (a .ps .now) (a .v), stored-length (l .inv .2), l .inv .2 .room)
 
 add-j : tie.Need-add-j Inv-loop μ-loop
-add-j c = omega (arith, c .before .loop-test .taken, c .before .before .before .before .good)
+add-j c =
+    let s = c .before .before .before .before .before .before .before .before in
+    let a = s .args in
+    omega (arith, c .before .loop-test .taken, span-most (a .m) (a .knots .now) (a .ps .now) (a .v) (s .pre .0), s .pre .1 .0)
 
 loop-less : tie.Need-loop-less Inv-loop μ-loop
 loop-less c = omega (arith, c .before .loop-test .taken)
 
 loop-again : tie.Need-loop-again Inv-loop μ-loop
 loop-again c =
-    let b = c .before .before in
-    let a = b .before .before .args in
-    rw (toZ-ofZ w32 (c .inserted-point .result) (record { sfits = c .inserted-point .ok }))
-    (stored-more (c .inserted-point .result) (pos 0) (b .loop .inv) (omega (arith, count b, c .before .loop-test .taken))
-    (insertedPoints-at (a .m) (a .knots .now) (a .ps .now) (a .v) (b .loop .j) (c .before .loop-test .taken)
-    ∙ rw (← b .before .before .pre .1 .0) (sym (c .inserted-point .ensures))))
+    let s = c .before .before .before .before .before .before .before .before in
+    let a = s .args in
+    let l = c .before .before .loop in
+    let most = span-most (a .m) (a .knots .now) (a .ps .now) (a .v) (s .pre .0) in (
+      omega (arith, l .inv .0),
+      omega (arith, c .before .loop-test .taken),
+      rw (toZ-ofZ w32 (c .quotient-at .result) (record { sfits = c .quotient-at .ok }))
+          (stored-more (c .quotient-at .result) (pos 0) (l .inv .2)
+          (omega (arith, c .before .loop-test .taken, most, s .pre .1 .0, insertedPoints-length (a .m) (a .knots .now) (a .ps .now) (a .v)))
+          (insertedPoints-at (a .m) (a .knots .now) (a .ps .now) (a .v) (l .j) (omega (arith, c .before .loop-test .taken, most, s .pre .1 .0))
+          ∙ point-quotient (a .m) (a .knots .now) (a .ps .now) (a .v) (insertionSpan (a .knots .now) (a .v)) (l .j)
+          (omega (arith, l .inv .0, s .pre .1 .0)) (omega (arith, c .before .loop-test .taken, s .pre .1 .0))
+          ∙ sym (c .quotient-at .ensures))),
+    )
 
-same-length : tie.Need-same-length Inv-loop μ-loop
-same-length c = stored-length (c .before .loop .inv)
+-- the points in front and the quotients are stored
+quotients-stored : (c : tie.After-loop Inv-loop μ-loop) → Stored (insertedPoints (c .before .before .before .before .before .before .before .args .m) (c .before .before .before .before .before .before .before .args .knots .now) (c .before .before .before .before .before .before .before .args .ps .now) (c .before .before .before .before .before .before .before .args .v)) (c .before .before .before .before .before .before .before .args .out .now) (c .before .loop .out) (c .before .before .before .before .before .before .before .args .i + 1)
+quotients-stored c =
+    let l = c .before .loop in
+    let s = c .before .before .before .before .before .before .before in
+    let ends : l .j ≡ s .args .i + 1 = omega (arith, l .inv .1, c .loop-test .left) in
+    rw ends at (stored-since (front-stored (c .before .before)) (l .inv .0) (l .inv .2))
+
+add-behind : tie.Need-add-behind Inv-loop μ-loop
+add-behind c =
+    let s = c .before .before .before .before .before .before .before in
+    let a = s .args in
+    omega (arith, span-most (a .m) (a .knots .now) (a .ps .now) (a .v) (s .pre .0), s .pre .1 .0)
+
+sub-copy-coordinates : tie.Need-sub-copy-coordinates Inv-loop μ-loop
+sub-copy-coordinates c = omega arith
+
+mul-copy-coordinates : tie.Need-mul-copy-coordinates Inv-loop μ-loop
+mul-copy-coordinates c =
+    let s = c .before .before .before .before .before .before .before in
+    let a = s .args in
+    omega (arith, span-most (a .m) (a .knots .now) (a .ps .now) (a .v) (s .pre .0), s .pre .1 .0)
+
+sub-copy-coordinates-2 : tie.Need-sub-copy-coordinates-2 Inv-loop μ-loop
+sub-copy-coordinates-2 c =
+    let s = c .before .before .before .before .before .before .before in
+    let a = s .args in
+    omega (arith, span-most (a .m) (a .knots .now) (a .ps .now) (a .v) (s .pre .0), s .pre .1 .0)
+
+part-copy-coordinates-start : tie.Need-part-copy-coordinates-start Inv-loop μ-loop
+part-copy-coordinates-start c =
+    let s = c .before .before .before .before .before .before .before in
+    let a = s .args in
+    omega (arith, span-most (a .m) (a .knots .now) (a .ps .now) (a .v) (s .pre .0), s .pre .1 .0)
+
+part-copy-coordinates-end : tie.Need-part-copy-coordinates-end Inv-loop μ-loop
+part-copy-coordinates-end c = search needs
+
+mul-copy-coordinates-2 : tie.Need-mul-copy-coordinates-2 Inv-loop μ-loop
+mul-copy-coordinates-2 c =
+    let s = c .before .before .before .before .before .before .before .before in
+    let a = s .args in
+    omega (arith, span-most (a .m) (a .knots .now) (a .ps .now) (a .v) (s .pre .0), s .pre .1 .0)
+
+sub-copy-coordinates-3 : tie.Need-sub-copy-coordinates-3 Inv-loop μ-loop
+sub-copy-coordinates-3 c = ends-inside (quotients-stored (c .before))
+
+part-copy-coordinates-start-2 : tie.Need-part-copy-coordinates-start-2 Inv-loop μ-loop
+part-copy-coordinates-start-2 c = ends-inside (quotients-stored (c .before))
+
+part-copy-coordinates-end-2 : tie.Need-part-copy-coordinates-end-2 Inv-loop μ-loop
+part-copy-coordinates-end-2 c = search needs
+
+copy-coordinates-requires-2 : tie.Need-copy-coordinates-requires-2 Inv-loop μ-loop
+copy-coordinates-requires-2 c κs = search needs
 
 returns : tie.Need-returns Inv-loop μ-loop
-returns c = stored-all (c .before .loop .inv) (omega (arith, count (c .before), c .loop-test .left))
+returns c =
+    let s = c .before .before .before .before .before .before .before .before .before .before .before in
+    let a = s .args in
+    let loop = c .before .before .before .before in
+    rest-copied (insertedPoints (a .m) (a .knots .now) (a .ps .now) (a .v)) (a .out .now) (take (length (a .ps .now) - (a .i + 1 - 1)) (drop (a .i + 1 - 1) (a .ps .now)))
+    (loop .before .loop .out) (c .before .copy-coordinates2 .last .1 .0) (a .i + 1)
+    (quotients-stored loop)
+    (points-rest (a .m) (a .knots .now) (a .ps .now) (a .v) (a .i) (s .pre .0) (s .pre .1 .0) (a .i + 1) (omega arith))
+    (c .before .copy-coordinates2 .ensures)
+
+same-length : tie.Need-same-length Inv-loop μ-loop
+same-length c =
+    let s = c .before .before .before .before .before .before .before .before .before .before .before in
+    let a = s .args in
+    ap length (returns c)
+    ∙ over-length (insertedPoints (a .m) (a .knots .now) (a .ps .now) (a .v)) (a .out .now) (omega (arith, insertedPoints-length (a .m) (a .knots .now) (a .ps .now) (a .v), s .pre .1 .1))
 
 pub insert-points-spec : {M : Type 1} → statement M
 insert-points-spec =
@@ -68,12 +183,27 @@ insert-points-spec =
     (tie.spec
     Inv-loop
     μ-loop
+    add-front
+    sub-front
+    slice-aggregate-copy-coordinates
+    copy-coordinates-requires
     loop-holds
-    inserted-point-requires
-    mul-t11
+    quotient-at-requires
+    mul-t18
     slice-set-from-out
     add-j
     loop-less
     loop-again
+    add-behind
+    sub-copy-coordinates
+    mul-copy-coordinates
+    sub-copy-coordinates-2
+    part-copy-coordinates-start
+    part-copy-coordinates-end
+    mul-copy-coordinates-2
+    sub-copy-coordinates-3
+    part-copy-coordinates-start-2
+    part-copy-coordinates-end-2
+    copy-coordinates-requires-2
     same-length
     returns)

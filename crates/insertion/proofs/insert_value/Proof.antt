@@ -1,76 +1,120 @@
--- The invariant: the first j entries are stored.
-use mathlib.Core.Path.{_≡_, sym}
+-- The knots up to v are copied, v is stored, and the knots behind it are copied.
+use mathlib.Core.Path.{sym, ap, _∙_}
 use Prim.Native.Nat.{_+_, _-_}
 use native.Mathlib.Omega.{arith}
 use borrow.Author.Needs.{needs}
-use lib.ListN.{length}
+use lib.ListN.{length, take, drop, set}
+use lib.Seq.{length-take-le}
+use Rattle.lent.proofs.OverLaws.{over-length}
 use Rattle.insertion.specs.Insertion.{insertedKnots}
-use Rattle.insertion.proofs.WriteLaws.{Stored, stored-none, stored-more, stored-length, stored-all}
-use Rattle.insertion.proofs.KnotLaws.{insertedKnots-length}
+use Rattle.insertion.proofs.WriteLaws.{Stored}
+use Rattle.insertion.proofs.SpanLaws.{knotsUpTo-length}
+use Rattle.insertion.proofs.KnotLaws.{insertedKnots-length, value-stored, value-rest}
+use Rattle.insertion.proofs.PartLaws.{ends-inside, rest-copied}
 use Rattle.insertion.proofs.insert_value.Statement.{statement}
 use Rattle.insertion.proofs.insert_value.Tie as tie
 
-abbrev Inv-loop : tie.InvT-loop
-Inv-loop knots v out₀ at n j₀ out j = Stored (insertedKnots knots v) out₀ out j
-
-abbrev μ-loop : tie.MeasureT-loop
-μ-loop knots v out₀ at n j₀ out j = n + 1 - j
-
-knots-up-to-requires : tie.Need-knots-up-to-requires Inv-loop μ-loop
-knots-up-to-requires c κs = search needs
-
--- the number of new knots
-count : (c : tie.At-loop Inv-loop μ-loop) → length (insertedKnots (c .before .before .before .before .args .knots .now) (c .before .before .before .before .args .v)) ≡ length (c .before .before .before .before .args .knots .now) + 1
-count c = let a = c .before .before .before .before .args in insertedKnots-length (a .knots .now) (a .v)
-
-loop-holds : tie.Need-loop-holds Inv-loop μ-loop
-loop-holds c =
+slice-aggregate-copy-knots : tie.Need-slice-aggregate-copy-knots
+slice-aggregate-copy-knots c =
     let a = c .before .before .before .args in
-    stored-none (insertedKnots (a .knots .now) (a .v)) (a .out .now) (omega (arith, insertedKnots-length (a .knots .now) (a .v), c .before .before .before .pre))
+    sym (length-take-le (a .at) (a .knots .now) (omega (arith, knotsUpTo-length (a .v) (a .knots .now), c .before .before .before .pre .0)))
 
-inserted-knot-requires : tie.Need-inserted-knot-requires Inv-loop μ-loop
-inserted-knot-requires c κs = (c .before .before .knots-up-to .ensures, c .loop-test .taken)
+copy-knots-requires : tie.Need-copy-knots-requires
+copy-knots-requires c κs = search needs
 
-mul-out : tie.Need-mul-out Inv-loop μ-loop
+mul-out : tie.Need-mul-out
 mul-out c =
-    let b = c .before .before in
-    omega (arith, b .loop .inv .room, count b, stored-length (b .loop .inv), c .before .loop-test .taken, b .before .before .before .before .good)
+    let s = c .before .before .before .before .before .before .before in
+    omega (arith, knotsUpTo-length (s .args .v) (s .args .knots .now), s .pre .0, s .pre .1)
 
-slice-write-out : tie.Need-slice-write-out Inv-loop μ-loop
+slice-write-out : tie.Need-slice-write-out
 slice-write-out c =
-    let b = c .before .before in
-    omega (arith, b .loop .inv .room, count b, stored-length (b .loop .inv), c .before .loop-test .taken)
+    let s = c .before .before .before .before .before .before .before in
+    omega (arith, knotsUpTo-length (s .args .v) (s .args .knots .now), s .pre .0, s .pre .1)
 
-add-j : tie.Need-add-j Inv-loop μ-loop
-add-j c = omega (arith, c .before .loop-test .taken, c .before .before .before .before .before .before .good)
+mul-copy-knots : tie.Need-mul-copy-knots
+mul-copy-knots c =
+    let s = c .before .before .before .before .before .before .before in
+    omega (arith, knotsUpTo-length (s .args .v) (s .args .knots .now), s .pre .0, s .pre .1)
 
-loop-less : tie.Need-loop-less Inv-loop μ-loop
-loop-less c = omega (arith, c .before .loop-test .taken)
+sub-copy-knots : tie.Need-sub-copy-knots
+sub-copy-knots c =
+    let s = c .before .before .before .before .before .before .before in
+    omega (arith, knotsUpTo-length (s .args .v) (s .args .knots .now), s .pre .0)
 
-loop-again : tie.Need-loop-again Inv-loop μ-loop
-loop-again c =
-    let b = c .before .before in
-    stored-more (c .inserted-knot .result) 0 (b .loop .inv) (omega (arith, count b, c .before .loop-test .taken)) (sym (c .inserted-knot .ensures))
+part-copy-knots-start : tie.Need-part-copy-knots-start
+part-copy-knots-start c =
+    let s = c .before .before .before .before .before .before .before in
+    omega (arith, knotsUpTo-length (s .args .v) (s .args .knots .now), s .pre .0)
 
-same-length : tie.Need-same-length Inv-loop μ-loop
-same-length c = stored-length (c .before .loop .inv)
+part-copy-knots-end : tie.Need-part-copy-knots-end
+part-copy-knots-end c = search needs
 
-returns : tie.Need-returns Inv-loop μ-loop
-returns c = stored-all (c .before .loop .inv) (omega (arith, count (c .before), c .loop-test .left))
+add-copy-knots : tie.Need-add-copy-knots
+add-copy-knots c =
+    let s = c .before .before .before .before .before .before .before .before in
+    omega (arith, knotsUpTo-length (s .args .v) (s .args .knots .now), s .pre .0, s .pre .1)
+
+mul-copy-knots-2 : tie.Need-mul-copy-knots-2
+mul-copy-knots-2 c =
+    let s = c .before .before .before .before .before .before .before .before in
+    omega (arith, knotsUpTo-length (s .args .v) (s .args .knots .now), s .pre .0, s .pre .1)
+
+-- v is stored, and the list is as long as it was
+stored : (c : tie.After-slice-known2) → Stored (insertedKnots (c .before .before .before .before .before .before .before .args .knots .now) (c .before .before .before .before .before .before .before .args .v)) (c .before .before .before .before .before .before .before .args .out .now) (set (c .before .before .copy-knots .last .1 .0) (c .before .before .before .before .before .before .before .args .at) (c .before .before .before .before .before .before .before .args .v)) (c .before .before .before .before .before .before .before .args .at + 1)
+stored c =
+    let s = c .before .before .before .before .before .before .before in
+    let a = s .args in
+    let first = c .before .before .copy-knots in
+    value-stored (a .knots .now) (a .v) (a .at) (s .pre .0) (a .out .now) (first .last .1 .0) (s .pre .1) (first .ensures)
+
+sub-copy-knots-2 : tie.Need-sub-copy-knots-2
+sub-copy-knots-2 c = ends-inside (stored (c .before))
+
+part-copy-knots-start-2 : tie.Need-part-copy-knots-start-2
+part-copy-knots-start-2 c = ends-inside (stored (c .before))
+
+part-copy-knots-end-2 : tie.Need-part-copy-knots-end-2
+part-copy-knots-end-2 c = search needs
+
+copy-knots-requires-2 : tie.Need-copy-knots-requires-2
+copy-knots-requires-2 c κs = search needs
+
+returns : tie.Need-returns
+returns c =
+    let s = c .before .before .before .before .before .before .before .before .before .before .before .before in
+    let a = s .args in
+    let first = c .before .before .before .before .before .before .before .copy-knots in
+    rest-copied (insertedKnots (a .knots .now) (a .v)) (a .out .now) (take (length (a .knots .now) - a .at) (drop (a .at) (a .knots .now)))
+    (set (first .last .1 .0) (a .at) (a .v)) (c .before .before .copy-knots2 .last .1 .0) (a .at + 1)
+    (stored (c .before .before .before .before .before))
+    (value-rest (a .knots .now) (a .v) (a .at) (s .pre .0))
+    (c .before .before .copy-knots2 .ensures)
+
+same-length : tie.Need-same-length
+same-length c =
+    let s = c .before .before .before .before .before .before .before .before .before .before .before .before in
+    let a = s .args in
+    ap length (returns c)
+    ∙ over-length (insertedKnots (a .knots .now) (a .v)) (a .out .now) (omega (arith, insertedKnots-length (a .knots .now) (a .v), s .pre .1))
 
 pub insert-value-spec : {M : Type 1} → statement M
 insert-value-spec =
     tie.close
     (tie.spec
-    Inv-loop
-    μ-loop
-    knots-up-to-requires
-    loop-holds
-    inserted-knot-requires
+    slice-aggregate-copy-knots
+    copy-knots-requires
     mul-out
     slice-write-out
-    add-j
-    loop-less
-    loop-again
+    mul-copy-knots
+    sub-copy-knots
+    part-copy-knots-start
+    part-copy-knots-end
+    add-copy-knots
+    mul-copy-knots-2
+    sub-copy-knots-2
+    part-copy-knots-start-2
+    part-copy-knots-end-2
+    copy-knots-requires-2
     same-length
     returns)
