@@ -1,6 +1,6 @@
 -- The points in front are copied, the quotients are stored one by one (the invariant), and the points behind are copied.
 use mathlib.Core.Path.{_≡_, sym, ap, _∙_}
-use Prim.Native.Nat.{_+_, _-_, _≤_}
+use Prim.Native.Nat.{_+_, _-_, _≤_, _<_}
 use native.Mathlib.Omega.{arith}
 use borrow.Author.Needs.{needs}
 use lib.IntN.{pos}
@@ -11,7 +11,7 @@ use mir.ValLaws.{toZ-ofZ}
 use Rattle.lent.proofs.OverLaws.{over-length}
 use Rattle.insertion.specs.Insertion.{insertionSpan, insertedPoints}
 use Rattle.insertion.proofs.WriteLaws.{Stored, stored-more, stored-length}
-use Rattle.insertion.proofs.PartLaws.{ends-inside, stored-anew, stored-since, rest-copied}
+use Rattle.insertion.proofs.PartLaws.{stored-anew, stored-since, rest-copied}
 use Rattle.insertion.proofs.SpanLaws.{span-least, span-most, span-weighed}
 use Rattle.insertion.proofs.PointLaws.{insertedPoints-length, insertedPoints-at, point-quotient, points-stored, points-rest}
 use Rattle.insertion.proofs.insert_points.Statement.{statement}
@@ -24,10 +24,14 @@ Inv-loop m knots ps v i out₀ front j₀ out j =
 abbrev μ-loop : tie.MeasureT-loop
 μ-loop m knots ps v i out₀ front j₀ out j = i + 1 - j
 
+-- the span is the place of a point
+within : (s : tie.Start Inv-loop μ-loop) → s .args .i < length (s .args .ps .now)
+within s =
+    let a = s .args in
+    omega (arith, span-most (a .m) (a .knots .now) (a .ps .now) (a .v) (s .pre .0), s .pre .1 .0)
+
 add-front : tie.Need-add-front Inv-loop μ-loop
-add-front c =
-    let a = c .before .args in
-    omega (arith, span-most (a .m) (a .knots .now) (a .ps .now) (a .v) (c .before .pre .0))
+add-front c = omega (arith, within (c .before))
 
 sub-front : tie.Need-sub-front Inv-loop μ-loop
 sub-front c =
@@ -38,7 +42,7 @@ slice-aggregate-copy-coordinates : tie.Need-slice-aggregate-copy-coordinates Inv
 slice-aggregate-copy-coordinates c =
     let s = c .before .before in
     let a = s .args in
-    sym (length-take-le (a .i + 1 - a .m) (a .ps .now) (omega (arith, span-most (a .m) (a .knots .now) (a .ps .now) (a .v) (s .pre .0), s .pre .0 .degree, s .pre .1 .0)))
+    sym (length-take-le (a .i + 1 - a .m) (a .ps .now) (omega (arith, within s, s .pre .0 .degree)))
 
 copy-coordinates-requires : tie.Need-copy-coordinates-requires Inv-loop μ-loop
 copy-coordinates-requires c κs = search needs
@@ -65,23 +69,17 @@ quotient-at-requires c κs =
     )
 
 mul-t18 : tie.Need-mul-t18 Inv-loop μ-loop
-mul-t18 c =
-    let s = c .before .before .before .before .before .before .before .before in
-    let a = s .args in
-    omega (arith, c .before .loop-test .taken, span-most (a .m) (a .knots .now) (a .ps .now) (a .v) (s .pre .0), s .pre .1 .0)
+mul-t18 c = omega (arith, c .before .loop-test .taken, within (c .before .before .before .before .before .before .before .before))
 
 slice-set-from-out : tie.Need-slice-set-from-out Inv-loop μ-loop
 slice-set-from-out c =
     let s = c .before .before .before .before .before .before .before .before in
     let a = s .args in
     let l = c .before .before .loop in
-    omega (arith, c .before .loop-test .taken, span-most (a .m) (a .knots .now) (a .ps .now) (a .v) (s .pre .0), s .pre .1 .0, insertedPoints-length (a .m) (a .knots .now) (a .ps .now) (a .v), stored-length (l .inv .2), l .inv .2 .room)
+    omega (arith, c .before .loop-test .taken, within s, insertedPoints-length (a .m) (a .knots .now) (a .ps .now) (a .v), stored-length (l .inv .2), l .inv .2 .room)
 
 add-j : tie.Need-add-j Inv-loop μ-loop
-add-j c =
-    let s = c .before .before .before .before .before .before .before .before in
-    let a = s .args in
-    omega (arith, c .before .loop-test .taken, span-most (a .m) (a .knots .now) (a .ps .now) (a .v) (s .pre .0), s .pre .1 .0)
+add-j c = omega (arith, c .before .loop-test .taken, within (c .before .before .before .before .before .before .before .before))
 
 loop-less : tie.Need-loop-less Inv-loop μ-loop
 loop-less c = omega (arith, c .before .loop-test .taken)
@@ -91,13 +89,13 @@ loop-again c =
     let s = c .before .before .before .before .before .before .before .before in
     let a = s .args in
     let l = c .before .before .loop in
-    let most = span-most (a .m) (a .knots .now) (a .ps .now) (a .v) (s .pre .0) in (
+    let most = within s in (
       omega (arith, l .inv .0),
       omega (arith, c .before .loop-test .taken),
       rw (toZ-ofZ w32 (c .quotient-at .result) (record { sfits = c .quotient-at .ok }))
           (stored-more (c .quotient-at .result) (pos 0) (l .inv .2)
-          (omega (arith, c .before .loop-test .taken, most, s .pre .1 .0, insertedPoints-length (a .m) (a .knots .now) (a .ps .now) (a .v)))
-          (insertedPoints-at (a .m) (a .knots .now) (a .ps .now) (a .v) (l .j) (omega (arith, c .before .loop-test .taken, most, s .pre .1 .0))
+          (omega (arith, c .before .loop-test .taken, most, insertedPoints-length (a .m) (a .knots .now) (a .ps .now) (a .v)))
+          (insertedPoints-at (a .m) (a .knots .now) (a .ps .now) (a .v) (l .j) (omega (arith, c .before .loop-test .taken, most))
           ∙ point-quotient (a .m) (a .knots .now) (a .ps .now) (a .v) (insertionSpan (a .knots .now) (a .v)) (l .j)
           (omega (arith, l .inv .0, s .pre .1 .0)) (omega (arith, c .before .loop-test .taken, s .pre .1 .0))
           ∙ sym (c .quotient-at .ensures))),
@@ -112,46 +110,35 @@ quotients-stored c =
     rw ends at (stored-since (front-stored (c .before .before)) (l .inv .0) (l .inv .2))
 
 add-behind : tie.Need-add-behind Inv-loop μ-loop
-add-behind c =
-    let s = c .before .before .before .before .before .before .before in
-    let a = s .args in
-    omega (arith, span-most (a .m) (a .knots .now) (a .ps .now) (a .v) (s .pre .0), s .pre .1 .0)
+add-behind c = omega (arith, within (c .before .before .before .before .before .before .before))
 
 sub-copy-coordinates : tie.Need-sub-copy-coordinates Inv-loop μ-loop
 sub-copy-coordinates c = omega arith
 
 mul-copy-coordinates : tie.Need-mul-copy-coordinates Inv-loop μ-loop
-mul-copy-coordinates c =
-    let s = c .before .before .before .before .before .before .before in
-    let a = s .args in
-    omega (arith, span-most (a .m) (a .knots .now) (a .ps .now) (a .v) (s .pre .0), s .pre .1 .0)
+mul-copy-coordinates c = omega (arith, within (c .before .before .before .before .before .before .before))
 
 sub-copy-coordinates-2 : tie.Need-sub-copy-coordinates-2 Inv-loop μ-loop
-sub-copy-coordinates-2 c =
-    let s = c .before .before .before .before .before .before .before in
-    let a = s .args in
-    omega (arith, span-most (a .m) (a .knots .now) (a .ps .now) (a .v) (s .pre .0), s .pre .1 .0)
+sub-copy-coordinates-2 c = omega (arith, within (c .before .before .before .before .before .before .before))
 
 part-copy-coordinates-start : tie.Need-part-copy-coordinates-start Inv-loop μ-loop
-part-copy-coordinates-start c =
-    let s = c .before .before .before .before .before .before .before in
-    let a = s .args in
-    omega (arith, span-most (a .m) (a .knots .now) (a .ps .now) (a .v) (s .pre .0), s .pre .1 .0)
+part-copy-coordinates-start c = omega (arith, within (c .before .before .before .before .before .before .before))
 
 part-copy-coordinates-end : tie.Need-part-copy-coordinates-end Inv-loop μ-loop
 part-copy-coordinates-end c = search needs
 
 mul-copy-coordinates-2 : tie.Need-mul-copy-coordinates-2 Inv-loop μ-loop
-mul-copy-coordinates-2 c =
-    let s = c .before .before .before .before .before .before .before .before in
-    let a = s .args in
-    omega (arith, span-most (a .m) (a .knots .now) (a .ps .now) (a .v) (s .pre .0), s .pre .1 .0)
+mul-copy-coordinates-2 c = omega (arith, within (c .before .before .before .before .before .before .before .before))
 
 sub-copy-coordinates-3 : tie.Need-sub-copy-coordinates-3 Inv-loop μ-loop
-sub-copy-coordinates-3 c = ends-inside (quotients-stored (c .before))
+sub-copy-coordinates-3 c =
+    let s = c .before .before .before .before .before .before .before .before in
+    omega (arith, within s, s .pre .1 .1, stored-length (quotients-stored (c .before)))
 
 part-copy-coordinates-start-2 : tie.Need-part-copy-coordinates-start-2 Inv-loop μ-loop
-part-copy-coordinates-start-2 c = ends-inside (quotients-stored (c .before))
+part-copy-coordinates-start-2 c =
+    let s = c .before .before .before .before .before .before .before .before in
+    omega (arith, within s, s .pre .1 .1, stored-length (quotients-stored (c .before)))
 
 part-copy-coordinates-end-2 : tie.Need-part-copy-coordinates-end-2 Inv-loop μ-loop
 part-copy-coordinates-end-2 c = search needs

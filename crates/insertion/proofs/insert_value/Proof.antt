@@ -1,6 +1,6 @@
 -- The knots up to v are copied, v is stored, and the knots behind it are copied.
 use mathlib.Core.Path.{sym, ap, _∙_}
-use Prim.Native.Nat.{_+_, _-_}
+use Prim.Native.Nat.{_+_, _-_, _≤_}
 use native.Mathlib.Omega.{arith}
 use borrow.Author.Needs.{needs}
 use lib.ListN.{length, take, drop, set}
@@ -14,10 +14,14 @@ use Rattle.insertion.proofs.PartLaws.{ends-inside, rest-copied}
 use Rattle.insertion.proofs.insert_value.Statement.{statement}
 use Rattle.insertion.proofs.insert_value.Tie as tie
 
+-- the knots up to v are knots
+within : (s : tie.Start) → s .args .at ≤ length (s .args .knots .now)
+within s = omega (arith, knotsUpTo-length (s .args .v) (s .args .knots .now), s .pre .0)
+
 slice-aggregate-copy-knots : tie.Need-slice-aggregate-copy-knots
 slice-aggregate-copy-knots c =
-    let a = c .before .before .before .args in
-    sym (length-take-le (a .at) (a .knots .now) (omega (arith, knotsUpTo-length (a .v) (a .knots .now), c .before .before .before .pre .0)))
+    let s = c .before .before .before in
+    sym (length-take-le (s .args .at) (s .args .knots .now) (within s))
 
 copy-knots-requires : tie.Need-copy-knots-requires
 copy-knots-requires c κs = search needs
@@ -25,27 +29,23 @@ copy-knots-requires c κs = search needs
 mul-out : tie.Need-mul-out
 mul-out c =
     let s = c .before .before .before .before .before .before .before in
-    omega (arith, knotsUpTo-length (s .args .v) (s .args .knots .now), s .pre .0, s .pre .1)
+    omega (arith, within s, s .pre .1)
 
 slice-write-out : tie.Need-slice-write-out
 slice-write-out c =
     let s = c .before .before .before .before .before .before .before in
-    omega (arith, knotsUpTo-length (s .args .v) (s .args .knots .now), s .pre .0, s .pre .1)
+    omega (arith, within s, s .pre .1)
 
 mul-copy-knots : tie.Need-mul-copy-knots
 mul-copy-knots c =
     let s = c .before .before .before .before .before .before .before in
-    omega (arith, knotsUpTo-length (s .args .v) (s .args .knots .now), s .pre .0, s .pre .1)
+    omega (arith, within s, s .pre .1)
 
 sub-copy-knots : tie.Need-sub-copy-knots
-sub-copy-knots c =
-    let s = c .before .before .before .before .before .before .before in
-    omega (arith, knotsUpTo-length (s .args .v) (s .args .knots .now), s .pre .0)
+sub-copy-knots c = within (c .before .before .before .before .before .before .before)
 
 part-copy-knots-start : tie.Need-part-copy-knots-start
-part-copy-knots-start c =
-    let s = c .before .before .before .before .before .before .before in
-    omega (arith, knotsUpTo-length (s .args .v) (s .args .knots .now), s .pre .0)
+part-copy-knots-start c = within (c .before .before .before .before .before .before .before)
 
 part-copy-knots-end : tie.Need-part-copy-knots-end
 part-copy-knots-end c = search needs
@@ -53,12 +53,12 @@ part-copy-knots-end c = search needs
 add-copy-knots : tie.Need-add-copy-knots
 add-copy-knots c =
     let s = c .before .before .before .before .before .before .before .before in
-    omega (arith, knotsUpTo-length (s .args .v) (s .args .knots .now), s .pre .0, s .pre .1)
+    omega (arith, within s, s .pre .1)
 
 mul-copy-knots-2 : tie.Need-mul-copy-knots-2
 mul-copy-knots-2 c =
     let s = c .before .before .before .before .before .before .before .before in
-    omega (arith, knotsUpTo-length (s .args .v) (s .args .knots .now), s .pre .0, s .pre .1)
+    omega (arith, within s, s .pre .1)
 
 -- v is stored, and the list is as long as it was
 stored : (c : tie.After-slice-known2) → Stored (insertedKnots (c .before .before .before .before .before .before .before .args .knots .now) (c .before .before .before .before .before .before .before .args .v)) (c .before .before .before .before .before .before .before .args .out .now) (set (c .before .before .copy-knots .last .1 .0) (c .before .before .before .before .before .before .before .args .at) (c .before .before .before .before .before .before .before .args .v)) (c .before .before .before .before .before .before .before .args .at + 1)
