@@ -1,4 +1,5 @@
-// The rows of the triangle, each an array of four numbers that goes in and comes out by value.
+// The rows of the triangle, each an array of four numbers that goes in and comes out by value. Entries stand from place 3 to the
+// left: every place is a fixed one, whatever the degree, so a row is kept in registers and costs no traffic with memory.
 ghost use mathlib.Core.Path.{_≡_};
 ghost use mathlib.Core.List.{List};
 ghost use Prim.Native.Nat.{ℕ, _+_, _-_, _≤_, _<_};
@@ -7,19 +8,21 @@ ghost use lib.ListN.{length};
 ghost use Rattle.triangle.specs.FloatTriangle.{cellAt, coordinateOf};
 ghost use Rattle.rows.specs.Row.{HoldsRow};
 
-// Row 0: the carrying coordinates of the span.
+// Row 0: the carrying coordinates of the span, the last at place 3.
 fn first_row(ps: &[i32], degree: usize, span: usize) -> [f64; 4]
-    requires { ⌜ (degree ≤ 3) × (degree ≤ span) × (span < length (now ps)) ⌝ }
+    requires { ⌜ (1 ≤ degree) × (degree ≤ 3) × (degree ≤ span) × (span < length (now ps)) ⌝ }
     ensures row { λ d. ⌜ ((ts : List ℕ) (t : ℕ) → HoldsRow degree ts (now (ps .entry)) t span 0 d) ⌝ }
 {
-    let first = span - degree;
-    let mut row = [0.0; 4];
-    let mut a = 0;
-    while a <= degree {
-        row[a] = ps[first + a] as f64;
-        a += 1;
+    let third = ps[span - 1] as f64;
+    let last = ps[span] as f64;
+    if degree == 1 {
+        return [0.0, 0.0, third, last];
     }
-    row
+    let second = ps[span - 2] as f64;
+    if degree == 2 {
+        return [0.0, second, third, last];
+    }
+    [ps[span - 3] as f64, second, third, last]
 }
 
 // The cell of row r at j, from the two entries of the row before.
@@ -44,14 +47,16 @@ fn next_row(row: [f64; 4], knots: &[u16], degree: usize, span: usize, r: usize, 
     requires { ⌜ (r < degree) × (degree ≤ 3) × (degree ≤ span) × (span + degree < length (now knots)) ⌝ }
     ensures row { λ d. ⌜ ((ps : List ℤ) → HoldsRow degree (now (knots .entry)) ps t span r row → HoldsRow degree (now (knots .entry)) ps t span (r + 1) d) ⌝ }
 {
-    let first = span - degree;
-    let mut next = [0.0; 4];
-    let mut a = r + 1;
-    while a <= degree {
-        next[a] = cell_at(knots, degree, r + 1, first + a, t, row[a - 1], row[a]);
-        a += 1;
+    let last = cell_at(knots, degree, r + 1, span, t, row[2], row[3]);
+    if degree == r + 1 {
+        return [0.0, 0.0, 0.0, last];
     }
-    next
+    let third = cell_at(knots, degree, r + 1, span - 1, t, row[1], row[2]);
+    if degree == r + 2 {
+        return [0.0, 0.0, third, last];
+    }
+    let second = cell_at(knots, degree, r + 1, span - 2, t, row[0], row[1]);
+    [0.0, second, third, last]
 }
 
 // One coordinate of the point. Every row of the triangle is kept.
@@ -62,11 +67,11 @@ pub fn coordinate(knots: &[u16], ps: &[i32], degree: usize, span: usize, t: u16)
     let row0 = first_row(ps, degree, span);
     let row1 = next_row(row0, knots, degree, span, 0, t);
     if degree == 1 {
-        return row1[1];
+        return row1[3];
     }
     let row2 = next_row(row1, knots, degree, span, 1, t);
     if degree == 2 {
-        return row2[2];
+        return row2[3];
     }
     let row3 = next_row(row2, knots, degree, span, 2, t);
     row3[3]

@@ -21,7 +21,7 @@ returns c =
     let x = c .before .before .before .before .args in
     let row0 = c .before .before .first-row .ensures (now (x .knots)) (x .t) in
     let row1 = c .before .next-row .ensures (now (x .ps)) row0 in
-    last-entry (x .degree) (now (x .knots)) (now (x .ps)) (x .t) (x .span) 1 _ (c .if1 .taken) (omega arith) row1
+    last-entry (x .degree) (now (x .knots)) (now (x .ps)) (x .t) (x .span) 1 _ (c .if1 .taken) row1
 
 next-row-requires-2 : tie.Need-next-row-requires-2
 next-row-requires-2 c κs = search needs
@@ -35,7 +35,7 @@ returns-2 c =
     let row0 = c .before .before .before .before .first-row .ensures (now (x .knots)) (x .t) in
     let row1 = c .before .before .before .next-row .ensures (now (x .ps)) row0 in
     let row2 = c .before .next-row2 .ensures (now (x .ps)) row1 in
-    last-entry (x .degree) (now (x .knots)) (now (x .ps)) (x .t) (x .span) 2 _ (c .if2 .taken) (omega arith) row2
+    last-entry (x .degree) (now (x .knots)) (now (x .ps)) (x .t) (x .span) 2 _ (c .if2 .taken) row2
 
 next-row-requires-3 : tie.Need-next-row-requires-3
 next-row-requires-3 c κs = search needs
@@ -51,7 +51,7 @@ returns-3 c =
     let row2 = c .before .before .next-row2 .ensures (now (x .ps)) row1 in
     let row3 = c .next-row3 .ensures (now (x .ps)) row2 in
     let three : x .degree ≡ 3 = omega arith in
-    last-entry (x .degree) (now (x .knots)) (now (x .ps)) (x .t) (x .span) 3 _ three (omega arith) row3
+    last-entry (x .degree) (now (x .knots)) (now (x .ps)) (x .t) (x .span) 3 _ three row3
 
 pub coordinate-spec : {M : Type 1} → statement M
 coordinate-spec =

@@ -1,83 +1,116 @@
--- `rows::first_row` meets its contract: the places below `a` hold their coordinates.
-use mathlib.Core.Path.{_≡_, refl, ap}
-use Prim.Native.Nat.{ℕ, _+_, _-_, _≤_, _<_, zero-le}
+-- `rows::first_row` meets its contract: each place that the degree asks for holds its coordinate.
+use mathlib.Core.Path.{_≡_, ap}
 use native.Mathlib.Omega.{arith}
-use lib.IntN.{pos}
-use lib.Ieee.{nan, ofInt, binary64}
-use lib.ListN.{length, getD, length-set}
+use borrow.Author.Needs.{needs, sfits-of}
+use lib.IntN.{ℤ}
+use lib.Ieee.{ofInt, binary64}
 use mir.Syntax.{w32}
+use mir.Val.{toZ, ofZ, SFits}
 use mir.Facts.{toZ-ofZ}
 use denote.Ref.{now}
 use Rattle.triangle.specs.FloatTriangle.{entryOf}
-use Rattle.rows.proofs.RowLaws.{filled-more}
+use Rattle.rows.proofs.RowLaws.{four-hold}
 use Rattle.rows.proofs.first_row.Statement.{statement}
 use Rattle.rows.proofs.first_row.Tie as tie
 
-abbrev Inv-loop : tie.InvT-loop
-Inv-loop ps degree span first row₀ a₀ row a = (a ≤ degree + 1) × (length row ≡ 4) × ((b : ℕ) → 0 ≤ b → b < a → getD row b nan ≡ ofInt binary64 (getD ps (span - degree + b) (pos 0)))
+-- a coordinate as the code reads it
+as-read : {z : ℤ} → SFits w32 z → ofInt binary64 (toZ w32 (ofZ w32 z)) ≡ ofInt binary64 z
+as-read h = ap (ofInt binary64) (toZ-ofZ h)
 
-abbrev μ-loop : tie.MeasureT-loop
-μ-loop ps degree span first row₀ a₀ row a = degree + 1 - a
+sub-third : tie.Need-sub-third
+sub-third c = search needs
 
-sub-first : tie.Need-sub-first Inv-loop μ-loop
-sub-first c = omega arith
+mul-third : tie.Need-mul-third
+mul-third c = search needs
 
-loop-holds : tie.Need-loop-holds Inv-loop μ-loop
-loop-holds c = (omega arith, refl, λ b _ h. absurd (omega arith))
+shared-slice-copy-out-third : tie.Need-shared-slice-copy-out-third
+shared-slice-copy-out-third c = search needs
 
-add-row : tie.Need-add-row Inv-loop μ-loop
-add-row c = omega arith
+int-to-float-third : tie.Need-int-to-float-third
+int-to-float-third c = search needs
 
-mul-row : tie.Need-mul-row Inv-loop μ-loop
-mul-row c = omega arith
+mul-last : tie.Need-mul-last
+mul-last c = search needs
 
-shared-slice-copy-out-row : tie.Need-shared-slice-copy-out-row Inv-loop μ-loop
-shared-slice-copy-out-row c = omega arith
+shared-slice-copy-out-last : tie.Need-shared-slice-copy-out-last
+shared-slice-copy-out-last c = search needs
 
-int-to-float-row : tie.Need-int-to-float-row Inv-loop μ-loop
-int-to-float-row c = tt
+int-to-float-last : tie.Need-int-to-float-last
+int-to-float-last c = search needs
 
-mul-row-2 : tie.Need-mul-row-2 Inv-loop μ-loop
-mul-row-2 c = omega arith
-
-array-write-row : tie.Need-array-write-row Inv-loop μ-loop
-array-write-row c = omega arith
-
-add-a : tie.Need-add-a Inv-loop μ-loop
-add-a c = omega arith
-
-loop-less : tie.Need-loop-less Inv-loop μ-loop
-loop-less c = omega arith
-
-loop-again : tie.Need-loop-again Inv-loop μ-loop
-loop-again c =
-    let l = c .before .before .before .loop in
-    let a = c .before .before .before .before .args in (
-      omega arith,
-      simp length-set (l .inv .1),
-      filled-more (λ b. ofInt binary64 (getD (now (a .ps)) (a .span - a .degree + b) (pos 0))) 0 (l .row) (l .a) _ (omega arith) (l .inv .2)
-          (ap (ofInt binary64) (toZ-ofZ {w = w32} (record { sfits = c .before .row .given }))),
-    )
-
-returns : tie.Need-returns Inv-loop μ-loop
+returns : tie.Need-returns
 unfolding entryOf
-returns c = λ ts t. record { entry = λ a _ h. c .before .loop .inv .2 a zero-le (omega arith) }
+returns c = λ ts t.
+    let x = c .before .before .before .before .before .args in
+    four-hold (x .degree) ts (now (x .ps)) t (x .span) 0 _ _ _ _ (omega arith)
+    (as-read (sfits-of (c .before .before .last .given)))
+    (λ g. as-read (sfits-of (c .before .before .before .before .third .given)))
+    (λ g. absurd (omega arith))
+    (λ g. absurd (omega arith))
+
+sub-second : tie.Need-sub-second
+sub-second c = search needs
+
+mul-second : tie.Need-mul-second
+mul-second c = search needs
+
+shared-slice-copy-out-second : tie.Need-shared-slice-copy-out-second
+shared-slice-copy-out-second c = search needs
+
+int-to-float-second : tie.Need-int-to-float-second
+int-to-float-second c = search needs
+
+returns-2 : tie.Need-returns-2
+unfolding entryOf
+returns-2 c = λ ts t.
+    let x = c .before .before .before .before .before .before .before .before .args in
+    four-hold (x .degree) ts (now (x .ps)) t (x .span) 0 _ _ _ _ (omega arith)
+    (as-read (sfits-of (c .before .before .before .before .before .last .given)))
+    (λ g. as-read (sfits-of (c .before .before .before .before .before .before .before .third .given)))
+    (λ g. as-read (sfits-of (c .before .before .second .given)))
+    (λ g. absurd (omega arith))
+
+sub-t8 : tie.Need-sub-t8
+sub-t8 c = search needs
+
+mul-t7 : tie.Need-mul-t7
+mul-t7 c = search needs
+
+shared-slice-copy-out-t10 : tie.Need-shared-slice-copy-out-t10
+shared-slice-copy-out-t10 c = search needs
+
+int-to-float-t15 : tie.Need-int-to-float-t15
+int-to-float-t15 c = search needs
+
+returns-3 : tie.Need-returns-3
+unfolding entryOf
+returns-3 c = λ ts t.
+    let x = c .before .before .before .before .before .before .before .before .before .before .args in
+    four-hold (x .degree) ts (now (x .ps)) t (x .span) 0 _ _ _ _ (omega arith)
+    (as-read (sfits-of (c .before .before .before .before .before .before .before .last .given)))
+    (λ g. as-read (sfits-of (c .before .before .before .before .before .before .before .before .before .third .given)))
+    (λ g. as-read (sfits-of (c .before .before .before .before .second .given)))
+    (λ g. as-read (sfits-of (c .before .t10 .given)))
 
 pub first-row-spec : {M : Type 1} → statement M
 first-row-spec =
     tie.close
     (tie.spec
-    Inv-loop
-    μ-loop
-    sub-first
-    loop-holds
-    add-row
-    mul-row
-    shared-slice-copy-out-row
-    int-to-float-row
-    mul-row-2
-    array-write-row
-    add-a
-    loop-less
-    loop-again
-    returns)
+    sub-third
+    mul-third
+    shared-slice-copy-out-third
+    int-to-float-third
+    mul-last
+    shared-slice-copy-out-last
+    int-to-float-last
+    returns
+    sub-second
+    mul-second
+    shared-slice-copy-out-second
+    int-to-float-second
+    returns-2
+    sub-t8
+    mul-t7
+    shared-slice-copy-out-t10
+    int-to-float-t15
+    returns-3)
