@@ -1,4 +1,4 @@
--- A test of every entry of a list by itself: the test one entry at a time (rows 5 and 7).
+-- A test of every entry of a list by itself: the test one entry at a time (row 7).
 use mathlib.Core.Bool.{Bool, true, false, _&&_}
 use mathlib.Core.List.{List, [], _∷_}
 use mathlib.Core.Path.{_≡_, refl, _∙_}
@@ -7,8 +7,7 @@ use native.Mathlib.Numerals.{add-one}
 use lib.ListN.{length, getD, drop, drop-of-length-le}
 use lib.Seq.{drop-cons}
 use lib.IntN.{ℤ, pos}
-use lib.Dec.{eqb}
-use Rattle.grid.specs.Rows.{allAre, onGrid, allOnGrid}
+use Rattle.grid.specs.Rows.{onGrid, allOnGrid}
 
 module _ {A : Type 0} (ok : A → Bool) (all : List A → Bool) (none : all [] ≡ true) (more : (a : A) (l : List A) → all (a ∷ l) ≡ (ok a && all l)) (l : List A) (i : ℕ) (d : A) where
   every-step : i < length l → all (drop i l) ≡ (ok (getD l i d) && all (drop (i + 1) l))
@@ -22,19 +21,6 @@ module _ {A : Type 0} (ok : A → Bool) (all : List A → Bool) (none : all [] �
 
   every-end : length l ≤ i → all (drop i l) ≡ true
   every-end h = rw (drop-of-length-le l h) none
-
-module _ (v : ℕ) (ks : List ℕ) (i : ℕ) where
-  pub allAre-on : i < length ks → eqb (getD ks i 0) v ≡ true → allAre v (drop i ks) ≡ allAre v (drop (i + 1) ks)
-  unfolding allAre
-  allAre-on = every-on (λ t. eqb t v) (allAre v) refl (λ a l. refl) ks i 0
-
-  pub allAre-fails : i < length ks → eqb (getD ks i 0) v ≡ false → allAre v (drop i ks) ≡ false
-  unfolding allAre
-  allAre-fails = every-fails (λ t. eqb t v) (allAre v) refl (λ a l. refl) ks i 0
-
-  pub allAre-end : length ks ≤ i → allAre v (drop i ks) ≡ true
-  unfolding allAre
-  allAre-end = every-end (λ t. eqb t v) (allAre v) refl (λ a l. refl) ks i 0
 
 module _ (zs : List ℤ) (i : ℕ) where
   pub allOnGrid-on : i < length zs → onGrid (getD zs i (pos 0)) ≡ true → allOnGrid (drop i zs) ≡ allOnGrid (drop (i + 1) zs)

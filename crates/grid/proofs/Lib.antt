@@ -4,5 +4,7 @@ pub mod CountLaws
 pub mod OrderLaws
 pub mod EntryLaws
 pub mod RepeatLaws
+pub mod EndLaws
+pub mod InnerLaws
 pub mod ThenLaws
 pub mod SizeLaws

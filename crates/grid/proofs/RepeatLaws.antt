@@ -2,7 +2,7 @@
 use mathlib.Core.Bool.{Bool, true, false, cond, _&&_, and-false, true≢false}
 use mathlib.Core.List.{List, [], _∷_}
 use mathlib.Core.Path.{_≡_, refl, sym, _∙_, subst}
-use Prim.Native.Nat.{ℕ, zero, suc, _+_, _≤_, _<_, zero-le, suc-le-suc}
+use Prim.Native.Nat.{ℕ, zero, suc, _+_, _-_, _≤_, _<_, zero-le, suc-le-suc}
 use native.Mathlib.Nat.{le-refl}
 use native.Mathlib.Decide.{ℕ-discrete}
 use native.Mathlib.Omega.{arith}
@@ -47,6 +47,13 @@ rises-drop low (t ∷ ts) zero h l =
     let p = rises-cons low t ts h in
     rw (le-leb t t (omega arith), p .1, le-leb t knotMost (p .2))
 rises-drop low (t ∷ ts) (suc i) h l = rises-drop t ts i ((rises-cons low t ts h) .1) (omega arith)
+
+-- of two entries the later is not below the earlier
+pub rises-between : (low : ℕ) (ts : List ℕ) (i j : ℕ) → risesFrom low ts ≡ true → i ≤ j → j < length ts → getD ts i 0 ≤ getD ts j 0
+rises-between low ts i j h o l =
+    let there : i + (j - i) ≡ j = omega arith in
+    let above = rises-above (getD ts i 0) (drop i ts) (j - i) (rises-drop low ts i h (omega arith)) (rw (length-drop i ts) (omega arith)) in
+    rw (getD-drop i ts (j - i) 0, there) at above
 
 -- a value below every entry stands nowhere
 occurrences-above : (v low : ℕ) (ts : List ℕ) → v < low → risesFrom low ts ≡ true → occurrences v ts ≡ 0

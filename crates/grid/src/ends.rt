@@ -1,35 +1,24 @@
 // Row 5: m+1 equal knots at either end, and two ends that differ.
 ghost use Prim.Native.Nat.{_+_, _≤_};
+ghost use mathlib.Core.Bool.{true};
 ghost use mathlib.Core.Path.{_≡_};
-ghost use Rattle.grid.specs.Rows.{allAre, endsOk};
+ghost use Rattle.grid.specs.Rows.{knotOrderOk, endsOk};
 
+// Where no knot falls, the knots from one to another are equal when these two are.
 pub(crate) fn ends_ok(m: usize, knots: &[u16]) -> bool
-    requires { do ⌜ m + 1 ≤ (← ⟦knots.len()⟧) ⌝ }
+    requires count { do ⌜ m + 1 ≤ (← ⟦knots.len()⟧) ⌝ }
+    requires order { ⌜ knotOrderOk (now knots) ≡ true ⌝ }
     ensures answer { λ r. ⌜ r ≡ endsOk m (now (knots .entry)) ⌝ }
 {
     let count = knots.len();
     let width = m + 1;
-    let start = count - width;
     let first = knots[0];
     let last = knots[count - 1];
-    if !all_are(first, &knots[..width]) {
+    if knots[m] != first {
         return false;
     }
-    if !all_are(last, &knots[start..]) {
+    if knots[count - width] != last {
         return false;
     }
     first != last
-}
-
-fn all_are(v: u16, knots: &[u16]) -> bool
-    ensures answer { λ r. ⌜ r ≡ allAre v (now (knots .entry)) ⌝ }
-{
-    let mut i = 0;
-    while i < knots.len() {
-        if knots[i] != v {
-            return false;
-        }
-        i += 1;
-    }
-    true
 }

@@ -1,53 +1,33 @@
-// Row 6: in knots that never fall, a value stands more than k times exactly where one knot equals the k-th after it.
+// Row 6: no value stands too often.
 ghost use Prim.Native.Nat.{_+_, _≤_};
-ghost use mathlib.Core.Bool.{true, cond, _||_, _&&_};
+ghost use mathlib.Core.Bool.{true};
 ghost use mathlib.Core.Path.{_≡_};
-ghost use lib.Dec.{eqb, ltb};
-ghost use lib.ListN.{length, getD};
-ghost use Rattle.grid.specs.Rows.{knotOrderOk, repeatsOk};
+ghost use Rattle.grid.specs.Rows.{knotOrderOk, endsOk, repeatsOk};
 
+// Where rows 4 and 5 have passed: an end value stands m+1 times already, so the knot next to it must be another; and no inner
+// knot may be the m-th after it again. Looks at every inner knot, whatever it has seen, as range.rt does.
 pub(crate) fn repeats_ok(m: usize, knots: &[u16]) -> bool
-    requires count { do ⌜ (m ≤ 3) × (m + 1 ≤ (← ⟦knots.len()⟧)) ⌝ }
+    requires count { do ⌜ m + 1 ≤ (← ⟦knots.len()⟧) ⌝ }
     requires order { ⌜ knotOrderOk (now knots) ≡ true ⌝ }
+    requires ends { ⌜ endsOk m (now knots) ≡ true ⌝ }
     ensures answer { λ r. ⌜ r ≡ repeatsOk m (now (knots .entry)) ⌝ }
 {
     let count = knots.len();
-    let first = knots[0];
-    let last = knots[count - 1];
-    let mut i = 0;
-    while i < count {
-        let v = knots[i];
-        let most = most_of(m, first, last, v);
-        let far = i + most;
-        if stands_at(knots, far, v) {
-            return false;
+    let start = m + 1;
+    let end = count - start;
+    if knots[start] == knots[0] {
+        return false;
+    }
+    if knots[end - 1] == knots[count - 1] {
+        return false;
+    }
+    let mut fine = true;
+    let mut i = start;
+    while i + m < end {
+        if knots[i] == knots[i + m] {
+            fine = false;
         }
         i += 1;
     }
-    true
-}
-
-// How often v may stand.
-fn most_of(m: usize, first: u16, last: u16, v: u16) -> usize
-    requires { ⌜ m ≤ 3 ⌝ }
-    ensures answer { λ r. ⌜ r ≡ cond (eqb v first || eqb v last) (m + 1) m ⌝ }
-{
-    let ends = m + 1;
-    if v == first {
-        return ends;
-    }
-    if v == last {
-        return ends;
-    }
-    m
-}
-
-// There is a knot k, and it is v.
-fn stands_at(knots: &[u16], k: usize, v: u16) -> bool
-    ensures answer { λ r. ⌜ r ≡ (ltb k (length (now (knots .entry))) && eqb (getD (now (knots .entry)) k 0) v) ⌝ }
-{
-    if k < knots.len() {
-        return knots[k] == v;
-    }
-    false
+    fine
 }

@@ -55,8 +55,10 @@ returns-4 c =
 
 ends-ok-requires : tie.Need-ends-ok-requires
 ends-ok-requires c κs =
-    let start = c .before .before .before .before .before .before .before .before .before in
-    omega (arith, knots-of-test (start .args .degree) (start .args .knots .now) (start .args .xs .now) (test-passed (c .before .before .if3 .left) (c .before .before .before .knot-count-ok .ensures)))
+    let start = c .before .before .before .before .before .before .before .before .before in (
+      omega (arith, knots-of-test (start .args .degree) (start .args .knots .now) (start .args .xs .now) (test-passed (c .before .before .if3 .left) (c .before .before .before .knot-count-ok .ensures))),
+      test-passed (c .if4 .left) (c .before .knot-order-ok .ensures),
+    )
 
 returns-5 : tie.Need-returns-5
 returns-5 c =
@@ -69,14 +71,12 @@ returns-5 c =
 
 repeats-ok-requires : tie.Need-repeats-ok-requires
 repeats-ok-requires c κs =
-    let start = c .before .before .before .before .before .before .before .before .before .before .before in
-    let degree = test-passed (c .before .before .before .before .before .before .before .before .if1 .left) (c .before .before .before .before .before .before .before .before .before .degree-ok .ensures) in
-    let knots = test-passed (c .before .before .before .before .if3 .left) (c .before .before .before .before .before .knot-count-ok .ensures) in (
+    let start = c .before .before .before .before .before .before .before .before .before .before .before in (
+      omega (arith, knots-of-test (start .args .degree) (start .args .knots .now) (start .args .xs .now) (test-passed (c .before .before .before .before .if3 .left) (c .before .before .before .before .before .knot-count-ok .ensures))),
       (
-        (degree-of-test (start .args .degree) degree) .1,
-        omega (arith, knots-of-test (start .args .degree) (start .args .knots .now) (start .args .xs .now) knots),
+        test-passed (c .before .before .if4 .left) (c .before .before .before .knot-order-ok .ensures),
+        test-passed (c .if5 .left) (c .before .ends-ok .ensures),
       ),
-      test-passed (c .before .before .if4 .left) (c .before .before .before .knot-order-ok .ensures),
     )
 
 returns-6 : tie.Need-returns-6
