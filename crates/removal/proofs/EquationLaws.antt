@@ -5,7 +5,7 @@ use mathlib.Core.List.{List}
 use mathlib.Core.Path.{_≡_, sym, ap, _∙_}
 use Prim.Native.Nat.{ℕ, zero, suc, _+_, _-_, _≤_, _<_}
 use native.Mathlib.Omega.{arith}
-use lib.IntN.{ℤ, pos, natAbs, _+ℤ_, _-ℤ_, _*ℤ_, *ℤ-comm, zero-*ℤ, +ℤ-idl}
+use lib.IntN.{ℤ, pos, natAbs, _+ℤ_, _-ℤ_, _*ℤ_, *ℤ-comm, zero-*ℤ, +ℤ-idl, -ℤ-+ℤ-cancel}
 use lib.ListN.{length, getD, replicate, length-replicate}
 use lib.Seq.{ext-getD}
 use lib.Signed.{quotZ}
@@ -21,7 +21,7 @@ use Rattle.insertion.proofs.QuotientLaws.{sum-natural, weight-natural}
 use Rattle.insertion.proofs.WholeLaws.{whole-each, whole-of-each}
 use Rattle.insertion.proofs.PointLaws.{insertedPoints-length, insertedPoints-at, point-left, point-quotient, point-right}
 use Rattle.grid.specs.Limits.{coordinateMost}
-use Rattle.removal.specs.Axis.{Reduced, AxisReinserts, GivesBack}
+use Rattle.removal.specs.Axis.{Reduced, AxisReinserts, GivesAt, GivesBack, leftFor}
 
 module _ (m : ℕ) (ks : List ℕ) (v count : ℕ) (s : Reduced m ks count v) where
   -- a list of that many coordinates on the grid can take v
@@ -84,16 +84,19 @@ module _ (m : ℕ) (ks : List ℕ) (v count : ℕ) (s : Reduced m ks count v) wh
         times-cancel (pointAt q (j - 1)) (pointAt ps j) (getD ks (j + m) 0 - v) (omega (arith, w .high))
         (*ℤ-comm (pointAt q (j - 1)) (pos (getD ks (j + m) 0 - v)) ∙ equation)
 
+    -- what is left for a point is the point times the divisor
+    pub reinserts-rest : (j : ℕ) → insertionSpan ks v < j + m → j ≤ insertionSpan ks v
+        → leftFor m ks ps v j (pointAt q (j - 1)) ≡ pointAt q j *ℤ pos (v - getD ks j 0)
+    reinserts-rest j a b =
+        let moved = sum-moves (pos (v - getD ks j 0) *ℤ pointAt q j) (pos (getD ks (j + m) 0 - v) *ℤ pointAt q (j - 1)) (pointAt ps j *ℤ pos (getD ks (j + m) 0 - getD ks j 0)) (middle j a b) in
+        ap (λ (z : ℤ). z -ℤ pos (getD ks (j + m) 0 - v) *ℤ pointAt q (j - 1)) (*ℤ-comm (pos (getD ks (j + m) 0 - getD ks j 0)) (pointAt ps j))
+        ∙ sym moved ∙ *ℤ-comm (pos (v - getD ks j 0)) (pointAt q j)
+
     -- any other divisor: the point is the quotient of what is left
     pub reinserts-forward : (j : ℕ) → insertionSpan ks v < j + m → j ≤ insertionSpan ks v → getD ks j 0 < v
-        → pointAt q j
-        ≡ quotZ (pos (getD ks (j + m) 0 - getD ks j 0) *ℤ pointAt ps j -ℤ pos (getD ks (j + m) 0 - v) *ℤ pointAt q (j - 1)) (pos (v - getD ks j 0))
+        → pointAt q j ≡ quotZ (leftFor m ks ps v j (pointAt q (j - 1))) (pos (v - getD ks j 0))
     reinserts-forward j a b e =
-        let moved = sum-moves (pos (v - getD ks j 0) *ℤ pointAt q j) (pos (getD ks (j + m) 0 - v) *ℤ pointAt q (j - 1)) (pointAt ps j *ℤ pos (getD ks (j + m) 0 - getD ks j 0)) (middle j a b) in
-        sym (ap (λ (z : ℤ). quotZ z (pos (v - getD ks j 0)))
-        (ap (λ (z : ℤ). z -ℤ pos (getD ks (j + m) 0 - v) *ℤ pointAt q (j - 1)) (*ℤ-comm (pos (getD ks (j + m) 0 - getD ks j 0)) (pointAt ps j))
-        ∙ sym moved ∙ *ℤ-comm (pos (v - getD ks j 0)) (pointAt q j))
-        ∙ quot-of-product (pointAt q j) (v - getD ks j 0) (omega arith))
+        sym (ap (λ (z : ℤ). quotZ z (pos (v - getD ks j 0))) (reinserts-rest j a b) ∙ quot-of-product (pointAt q j) (v - getD ks j 0) (omega arith))
 
 -- the span of the fewer knots, whatever the coordinates
 zero-size : (n j : ℕ) → natAbs (getD (replicate n (pos 0)) j (pos 0)) ≤ coordinateMost
@@ -121,6 +124,16 @@ module _ (m : ℕ) (ks : List ℕ) (v count : ℕ) (s : Reduced m ks count v) wh
   reduced-weighed j a b =
       let w = span-weighed m ks (replicate count (pos 0)) v zeros j a b in
       record { low = w .low; high = w .high; knot = w .knot; first = w .first; point = omega (arith, w .point, length-replicate count (pos 0)) }
+
+  -- a point times the divisor is what is left for it: then inserting v gives the old coordinate there
+  pub gives-of-rest : (q ps : List ℤ) (j : ℕ) → insertionSpan ks v < j + m → j ≤ insertionSpan ks v
+      → leftFor m ks ps v j (pointAt q (j - 1)) ≡ pointAt q j *ℤ pos (v - getD ks j 0) → GivesAt m ks q v j (pointAt ps j)
+  gives-of-rest q ps j a b e =
+      let w = reduced-weighed j a b in
+      sum-natural m ks q v j (w .low) (w .high)
+      ∙ ap (λ (z : ℤ). z +ℤ pos (getD ks (j + m) 0 - v) *ℤ pointAt q (j - 1)) (*ℤ-comm (pos (v - getD ks j 0)) (pointAt q j) ∙ sym e)
+      ∙ -ℤ-+ℤ-cancel (pos (getD ks (j + m) 0 - getD ks j 0) *ℤ pointAt ps j) (pos (getD ks (j + m) 0 - v) *ℤ pointAt q (j - 1))
+      ∙ ap (λ (z : ℤ). z *ℤ pointAt ps j) (sym (weight-natural m ks q v j (w .low) (w .high)))
 
   -- coordinates on the grid that are the old ones at both sides and give the old ones back between them give all of them back
   module _ (q ps : List ℤ) (size : length ps ≡ count + 1) (same : length q + 1 ≡ length ps)

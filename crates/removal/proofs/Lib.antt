@@ -1,7 +1,9 @@
 -- Laws of removing a knot.
 pub mod BitsLaws
 pub mod EquationLaws
-pub mod CandidateLaws
+pub mod SideLaws
+pub mod CopyLaws
+pub mod WalkLaws
 pub mod WithoutLaws
 pub mod PolygonLaws
 pub mod OutcomeLaws

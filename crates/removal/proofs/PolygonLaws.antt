@@ -25,10 +25,10 @@ use Rattle.insertion.proofs.CheckedLaws.{rises-of-test, sizes-of-grid, grid-of-
 use Rattle.insertion.proofs.JudgedLaws.{Accepted, accepted-of-number, number-of-accepted}
 use Rattle.insertion.proofs.PassLaws.{order-back, ends-same, repeats-back, repeats-of-test, occurrences-inserted}
 use Rattle.removal.specs.Removal.{withoutOne, Reinserts, Removable}
-use Rattle.removal.specs.Axis.{Reduced, AxisReinserts}
+use Rattle.removal.specs.Axis.{Reduced, Ranged, AxisReinserts}
 use Rattle.removal.specs.Polygon.{Inner}
 use Rattle.removal.proofs.EquationLaws.{reinserts-left, reinserts-forward, reduced-least}
-use Rattle.removal.proofs.CandidateLaws.{known-right, next-left}
+use Rattle.removal.proofs.SideLaws.{known-right, next-left}
 use Rattle.removal.proofs.WithoutLaws.{without-inserted}
 
 -- coordinates that give the same old ones back are the same, entry by entry from the left
@@ -114,6 +114,13 @@ module _ (m : ℕ) (ts : List ℕ) (xs ys : List ℤ) (v : ℕ) (inner : Inner m
   pub fewer-inserted : insertedKnots (withoutOne v ts) v ≡ ts
   unfolding knotOrderOk
   fewer-inserted = without-inserted 0 v ts (passes-tests m ts xs ys (inner .passes) .order) (inner .present)
+
+  -- its coordinates are on the grid
+  pub inner-ranged : Ranged xs × Ranged ys
+  unfolding rangeOk
+  inner-ranged =
+      let tests = both (allOnGrid xs) (allOnGrid ys) (passes-tests m ts xs ys (inner .passes) .range) in
+      (sizes-of-grid xs (tests .0), sizes-of-grid ys (tests .1))
 
   pub fewer-length : length (withoutOne v ts) + 1 ≡ length ts
   fewer-length = sym (insertedKnots-length (withoutOne v ts) v) ∙ ap length fewer-inserted

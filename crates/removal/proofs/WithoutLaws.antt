@@ -1,12 +1,12 @@
--- The knots with one v fewer, entry by entry; inserting v into them gives the knots again.
+-- The knots with one v fewer, in two parts; inserting v into them gives the knots again.
 use mathlib.Core.Bool.{Bool, true, false, cond}
-use mathlib.Core.List.{List, [], _∷_}
+use mathlib.Core.List.{List, [], _∷_, _++_}
 use mathlib.Core.Path.{_≡_, refl, sym, ap, _∙_}
 use Prim.Native.Nat.{ℕ, zero, suc, _+_, _-_, _≤_, _<_}
 use native.Mathlib.Numerals.{add-one}
 use native.Mathlib.Omega.{arith}
 use lib.Dec.{eqb, leb}
-use lib.ListN.{length, getD, drop, drop-of-length-le}
+use lib.ListN.{length, getD, take, drop, drop-of-length-le}
 use lib.Seq.{drop-cons}
 use borrow.Author.Tests.{eq-eqb, ne-eqb, eqb-true, le-leb, leb-true}
 use Rattle.grid.specs.Limits.{knotMost}
@@ -38,35 +38,16 @@ without-length v (t ∷ ts) h = go (eqb t v) (without-length v ts) h
     go true rest s = add-one (length ts)
     go false rest s = let r = rest (omega arith) in omega arith
 
-pub without-before : (v : ℕ) (ts : List ℕ) (j : ℕ) → j < placeOf v ts → getD (withoutOne v ts) j 0 ≡ getD ts j 0
+-- what stands in front of the first v, and what stands behind it
+pub without-parts : (v : ℕ) (ts : List ℕ) → placeOf v ts < length ts → withoutOne v ts ≡ take (placeOf v ts) ts ++ drop (suc (placeOf v ts)) ts
 unfolding placeOf withoutOne
-without-before v [] j h = absurd (omega arith)
-without-before v (t ∷ ts) zero h = go (eqb t v) h
+without-parts v [] h = absurd (omega arith)
+without-parts v (t ∷ ts) h = go (eqb t v) (without-parts v ts) h
   where
-    go : (b : Bool) → zero < cond b 0 (suc (placeOf v ts)) → getD (cond b ts (t ∷ withoutOne v ts)) zero 0 ≡ t
-    go true s = absurd (omega arith)
-    go false s = refl
-without-before v (t ∷ ts) (suc j) h = go (eqb t v) (without-before v ts j) h
-  where
-    go : (b : Bool) → (j < placeOf v ts → getD (withoutOne v ts) j 0 ≡ getD ts j 0)
-        → suc j < cond b 0 (suc (placeOf v ts)) → getD (cond b ts (t ∷ withoutOne v ts)) (suc j) 0 ≡ getD ts j 0
-    go true rest s = absurd (omega arith)
-    go false rest s = rest (omega arith)
-
-pub without-behind : (v : ℕ) (ts : List ℕ) (j : ℕ) → placeOf v ts ≤ j → getD (withoutOne v ts) j 0 ≡ getD ts (suc j) 0
-unfolding placeOf withoutOne
-without-behind v [] j h = refl
-without-behind v (t ∷ ts) zero h = go (eqb t v) h
-  where
-    go : (b : Bool) → cond b 0 (suc (placeOf v ts)) ≤ zero → getD (cond b ts (t ∷ withoutOne v ts)) zero 0 ≡ getD ts zero 0
-    go true s = refl
-    go false s = absurd (omega arith)
-without-behind v (t ∷ ts) (suc j) h = go (eqb t v) (without-behind v ts j) h
-  where
-    go : (b : Bool) → (placeOf v ts ≤ j → getD (withoutOne v ts) j 0 ≡ getD ts (suc j) 0)
-        → cond b 0 (suc (placeOf v ts)) ≤ suc j → getD (cond b ts (t ∷ withoutOne v ts)) (suc j) 0 ≡ getD ts (suc j) 0
+    go : (b : Bool) → (placeOf v ts < length ts → withoutOne v ts ≡ take (placeOf v ts) ts ++ drop (suc (placeOf v ts)) ts) → cond b 0 (suc (placeOf v ts)) < suc (length ts)
+        → cond b ts (t ∷ withoutOne v ts) ≡ take (cond b 0 (suc (placeOf v ts))) (t ∷ ts) ++ drop (suc (cond b 0 (suc (placeOf v ts)))) (t ∷ ts)
     go true rest s = refl
-    go false rest s = rest (omega arith)
+    go false rest s = ap (λ (l : List ℕ). t ∷ l) (rest (omega arith))
 
 -- a value that stands in the rest is not below its start
 present-above : (low v : ℕ) (ts : List ℕ) → risesFrom low ts ≡ true → 0 < occurrences v ts → low ≤ v

@@ -1,13 +1,13 @@
 // The parts of removing a knot ("Inserting and removing a knot"), on slices, for a curve that has passed the check.
-mod candidate;
 mod forward;
 mod knots;
+mod walk;
 
 ghost use mathlib.Core.Path.{_≡_};
 ghost use Prim.Native.Nat.{_+_, _-_};
 ghost use lib.ListN.{length};
 ghost use Rattle.insertion.specs.Insertion.{insertionSpan};
-ghost use Rattle.removal.specs.Axis.{Reduced, AxisOutcome};
+ghost use Rattle.removal.specs.Axis.{Reduced, Ranged, AxisOutcome};
 ghost use Rattle.removal.specs.Polygon.{Inner, PolygonOutcome};
 
 // One axis: the coordinates that give `ps` back when v is inserted, or false where there are none.
@@ -15,12 +15,18 @@ pub fn remove_axis(m: usize, ks: &[u16], ps: &[i32], v: u16, i: usize, out: &mut
     requires { ⌜ Reduced m (now ks) (length (now ps) - 1) v ⌝ }
     requires { ⌜ i ≡ insertionSpan (now ks) v ⌝ }
     requires { ⌜ length (now out) + 1 ≡ length (now ps) ⌝ }
+    requires { ⌜ Ranged (now ps) ⌝ }
     ensures answer { λ r. ⌜ AxisOutcome m (now (ks .entry)) v (now (ps .entry)) (now (out .exit)) r ⌝ }
 {
-    if !candidate::fill(m, ks, ps, v, i, out) {
+    let far = walk::far_end(m, ks, v, i);
+    if !walk::from_left(m, ks, ps, v, i, far, out) {
         return false;
     }
-    candidate::gives_back(m, ks, out, ps, v, i)
+    if !walk::agrees(m, ks, ps, v, far, out[far - 1]) {
+        return false;
+    }
+    walk::copy_sides(ps, i - m, far, out);
+    true
 }
 
 // The knots with one v fewer and the polygon on them that gives the old points back, or false where there is none.

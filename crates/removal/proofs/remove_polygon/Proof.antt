@@ -5,6 +5,7 @@ use borrow.Author.Tests.{not-true, not-false}
 use lib.ListN.{length}
 use Rattle.grid.proofs.SizeLaws.{sizes-of-passes}
 use Rattle.insertion.proofs.SpanLaws.{span-of-upTo}
+use Rattle.removal.proofs.PolygonLaws.{inner-ranged}
 use Rattle.removal.proofs.OutcomeLaws.{outcome-reduced, outcome-count, outcome-no-x, outcome-by-y}
 use borrow.Author.Needs.{needs}
 use Rattle.removal.proofs.remove_polygon.Statement.{statement}
@@ -30,7 +31,7 @@ remove-axis-requires c κs =
     let a = s .args in
     let k = c .before .before .knots-up-to in (
       outcome-reduced (a .m) (a .knots .now) (a .xs .now) (a .ys .now) (a .v) (s .pre .0) (r .last .1 .1 .0) (r .ensures) (a .xs .now) refl,
-      (span-of-upTo (r .last .1 .1 .0) (a .v) (k .result) (k .ensures), s .pre .1 .1 .0),
+      (span-of-upTo (r .last .1 .1 .0) (a .v) (k .result) (k .ensures), (s .pre .1 .1 .0, inner-ranged (a .m) (a .knots .now) (a .xs .now) (a .ys .now) (a .v) (s .pre .0) .0)),
     )
 
 same-length : tie.Need-same-length
@@ -55,7 +56,7 @@ remove-axis-requires-2 c κs =
     let k = c .before .before .before .before .before .before .before .knots-up-to in
     let sizes = sizes-of-passes (a .m) (a .knots .now) (a .xs .now) (a .ys .now) (s .pre .0 .passes) in (
       outcome-reduced (a .m) (a .knots .now) (a .xs .now) (a .ys .now) (a .v) (s .pre .0) (r .last .1 .1 .0) (r .ensures) (a .ys .now) (sizes .as-many),
-      (span-of-upTo (r .last .1 .1 .0) (a .v) (k .result) (k .ensures), s .pre .1 .1 .1),
+      (span-of-upTo (r .last .1 .1 .0) (a .v) (k .result) (k .ensures), (s .pre .1 .1 .1, inner-ranged (a .m) (a .knots .now) (a .xs .now) (a .ys .now) (a .v) (s .pre .0) .1)),
     )
 
 same-length-3 : tie.Need-same-length-3
