@@ -31,15 +31,15 @@ module _ {A : Type 0} (d : A) (first second : List A) (k : ℕ) (inside : k ≤ 
 module _ {A : Type 0} (old before list last : List A) (start far : ℕ) (order : start ≤ far) (inside : far < length old) (room : length before + 1 ≡ length old)
     (front : list ≡ over (take (length before) (take start old)) before)
     (behind : last ≡ over (take (length (take (length list - far) (drop far list))) (take (length old - (far + 1)) (drop (far + 1) old))) (take (length list - far) (drop far list))) where
-  pub fronted : list ≡ take start old ++ drop start before
+  fronted : list ≡ take start old ++ drop start before
   fronted =
       let n = length-take-le start old (omega arith) in
       front ∙ rw (take-all (length before) (take start old) (rw n (omega arith)), n)
 
-  pub as-long : length list ≡ length before
+  as-long : length list ≡ length before
   as-long = rw (fronted, length-append (take start old) (drop start before), length-take-le start old (omega arith), length-drop start before) (omega arith)
 
-  pub copied-parts : take far list ++ (last ++ drop (length list - far) (drop far list)) ≡ take far list ++ drop (far + 1) old
+  copied-parts : take far list ++ (last ++ drop (length list - far) (drop far list)) ≡ take far list ++ drop (far + 1) old
   copied-parts =
       let n : length (drop far list) ≡ length (drop (far + 1) old) = rw (length-drop far list, length-drop (far + 1) old) (omega (arith, as-long)) in
       let none : drop (length list - far) (drop far list) ≡ [] = drop-of-length-le (drop far list) {i = length list - far} (rw (length-drop far list) (omega arith)) in

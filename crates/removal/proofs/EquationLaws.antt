@@ -25,7 +25,7 @@ use Rattle.removal.specs.Axis.{Reduced, AxisReinserts, GivesAt, GivesBac
 
 module _ (m : ℕ) (ks : List ℕ) (v count : ℕ) (s : Reduced m ks count v) where
   -- a list of that many coordinates on the grid can take v
-  pub reduced-insertable : (q : List ℤ) → length q ≡ count → ((j : ℕ) → natAbs (pointAt q j) ≤ coordinateMost) → Insertable m ks q v
+  reduced-insertable : (q : List ℤ) → length q ≡ count → ((j : ℕ) → natAbs (pointAt q j) ≤ coordinateMost) → Insertable m ks q v
   reduced-insertable q e range =
       record { rises = s .rises; degree = s .degree; count = rw e (s .knots); low = s .low; high = rw e (s .high); range = range }
 

@@ -28,16 +28,6 @@ place-present v (t ∷ ts) h = go (eqb t v) (place-present v ts) h
     go true rest s = omega arith
     go false rest s = let r = rest s in omega arith
 
-pub without-length : (v : ℕ) (ts : List ℕ) → placeOf v ts < length ts → length (withoutOne v ts) + 1 ≡ length ts
-unfolding placeOf withoutOne
-without-length v [] h = absurd (omega arith)
-without-length v (t ∷ ts) h = go (eqb t v) (without-length v ts) h
-  where
-    go : (b : Bool) → (placeOf v ts < length ts → length (withoutOne v ts) + 1 ≡ length ts)
-        → cond b 0 (suc (placeOf v ts)) < suc (length ts) → length (cond b ts (t ∷ withoutOne v ts)) + 1 ≡ suc (length ts)
-    go true rest s = add-one (length ts)
-    go false rest s = let r = rest (omega arith) in omega arith
-
 -- what stands in front of the first v, and what stands behind it
 pub without-parts : (v : ℕ) (ts : List ℕ) → placeOf v ts < length ts → withoutOne v ts ≡ take (placeOf v ts) ts ++ drop (suc (placeOf v ts)) ts
 unfolding placeOf withoutOne
