@@ -7,7 +7,7 @@ use Prim.Native.Nat.{ℕ, _+_, _≤_, _<_}
 use lib.IntN.{ℤ}
 use lib.ListN.{length, getD, take, drop}
 use Rattle.lent.specs.Lent.{over}
-use Rattle.removal.specs.Axis.{AxisReinserts}
+use Rattle.removal.specs.Axis.{Ranged, AxisReinserts}
 
 -- the knot in the middle, and the knots without it
 abbrev pub middle : ℕ → List ℕ → ℕ
@@ -16,7 +16,7 @@ middle m ts = getD ts (m + 1) 0
 unfoldable pub closed : ℕ → List ℕ → List ℕ
 closed m ts = take (m + 1) ts ++ drop (m + 2) ts
 
--- knots that never fall, the one in the middle the last of its value, and as many points as they carry
+-- knots that never fall, the one in the middle the last of its value, and as many points on the grid as they carry
 pub record Window (m : ℕ) (ts : List ℕ) (xs ys : List ℤ) : Type 0 where
   pub least : 1 ≤ m
   pub most : m ≤ 3
@@ -25,6 +25,8 @@ pub record Window (m : ℕ) (ts : List ℕ) (xs ys : List ℤ) : Type 0 where
   pub up : length ys ≡ m + 2
   pub rises : (a b : ℕ) → a ≤ b → b < length ts → getD ts a 0 ≤ getD ts b 0
   pub last : middle m ts < getD ts (m + 2) 0
+  pub rangedXs : Ranged xs
+  pub rangedYs : Ranged ys
 
 -- points that give the window's old ones back stand at its front, with the fewer knots
 pub record Closed (m : ℕ) (ts : List ℕ) (xs ys : List ℤ) (tsAfter : List ℕ) (xsAfter ysAfter : List ℤ) : Type 0 where

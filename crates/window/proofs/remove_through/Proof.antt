@@ -27,7 +27,7 @@ remove-axis-requires c κs =
     let a = s .args in
     let w = s .pre .0 in
     let k = c .before .before .before .before .before .close in
-    rw (k .ensures) (closed-reduced (a .m) (a .knots .now) (a .xs .now) (a .ys .now) w (a .xs .now) (w .across), (sym (closed-span (a .m) (a .knots .now) (a .xs .now) (a .ys .now) w), omega (arith, s .pre .1 .1 .0, w .across)))
+    rw (k .ensures) (closed-reduced (a .m) (a .knots .now) (a .xs .now) (a .ys .now) w (a .xs .now) (w .across), (sym (closed-span (a .m) (a .knots .now) (a .xs .now) (a .ys .now) w), (omega (arith, s .pre .1 .1 .0, w .across), w .rangedXs)))
 
 same-length : tie.Need-same-length
 same-length c = search needs
@@ -55,7 +55,7 @@ remove-axis-requires-2 c κs =
     let a = s .args in
     let w = s .pre .0 in
     let k = c .before .before .before .before .before .before .before .before .before .before .before .close in
-    rw (k .ensures) (closed-reduced (a .m) (a .knots .now) (a .xs .now) (a .ys .now) w (a .ys .now) (w .up), (sym (closed-span (a .m) (a .knots .now) (a .xs .now) (a .ys .now) w), omega (arith, s .pre .1 .1 .1, w .up)))
+    rw (k .ensures) (closed-reduced (a .m) (a .knots .now) (a .xs .now) (a .ys .now) w (a .ys .now) (w .up), (sym (closed-span (a .m) (a .knots .now) (a .xs .now) (a .ys .now) w), (omega (arith, s .pre .1 .1 .1, w .up), w .rangedYs)))
 
 same-length-5 : tie.Need-same-length-5
 same-length-5 c = search needs
