@@ -1,6 +1,10 @@
--- Laws of compaction.
-pub mod PassLaws
-pub mod TryLaws
+-- Compaction: curves that come into working lists point by point, and a pass's one result.
+pub mod PartLaws
 pub mod FrontLaws
-pub mod WhileLaws
-pub mod NextLaws
+pub mod TailLaws
+pub mod TryLaws
+pub mod SettleLaws
+pub mod GrowLaws
+
+
+pub mod PassLaws

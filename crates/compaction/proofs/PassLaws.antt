@@ -2,14 +2,17 @@
 use mathlib.Core.Bool.{Bool, true, false, cond}
 use mathlib.Core.List.{List, [], _∷_}
 use mathlib.Core.Path.{_≡_, refl, sym, _∙_, subst, subst₂}
-use Prim.Native.Nat.{ℕ, suc, _<_}
+use Prim.Native.Nat.{ℕ, zero, suc, _+_, _≤_, _<_}
 use native.Mathlib.Omega.{arith}
 use lib.Dec.{eqb}
 use lib.ListN.{length, getD}
-use borrow.Author.Tests.{eqb-true}
+use borrow.Author.Tests.{eqb-true, eq-eqb}
 use Rattle.removal.specs.Removal.{withoutOne, Removable}
 use Rattle.removal.proofs.PolygonLaws.{reinserts-unique}
-use Rattle.grid.specs.Rows.{occurrences}
+use Rattle.grid.specs.Rows.{firstKnot, occurrences}
+use Rattle.grid.specs.Check.{Passes}
+use Rattle.checked.proofs.CheckedLaws.{checked-of-passes}
+use Rattle.insertion.proofs.OrderLaws.{either}
 use Rattle.compaction.specs.Compaction.{Curve, Removes, RemovesWhile, stays, goesOn, IsNext, Pass, done, next}
 
 -- two curves with the same lists
@@ -31,6 +34,42 @@ while-unique (stays n) (stays o) = refl
 while-unique (stays n) (goesOn p q) = absurd (n (removes-removable p))
 while-unique (goesOn p q) (stays o) = absurd (o (removes-removable p))
 while-unique {m} {v} {e} (goesOn p q) (goesOn {d = d} r s) = while-unique q (subst (λ (x : Curve). RemovesWhile m v x e) (sym (removes-unique p r)) s)
+
+-- an entry is one occurrence
+pub occurs-at : (v : ℕ) (ts : List ℕ) (j : ℕ) → j < length ts → getD ts j 0 ≡ v → 0 < occurrences v ts
+unfolding occurrences
+occurs-at v [] j h e = absurd (omega arith)
+occurs-at v (t ∷ ts) zero h e = rw (eq-eqb t v e) (omega arith)
+occurs-at v (t ∷ ts) (suc j) h e = go (eqb t v) (occurs-at v ts j (omega arith) e)
+  where
+    go : (b : Bool) → 0 < occurrences v ts → 0 < cond b (suc (occurrences v ts)) (occurrences v ts)
+    go true s = omega arith
+    go false s = s
+
+-- a value that fills the first k places stands there k times
+fills : (v k : ℕ) (ts : List ℕ) → k ≤ length ts → ((j : ℕ) → j < k → getD ts j 0 ≡ v) → k ≤ occurrences v ts
+unfolding occurrences
+fills v zero ts h each = omega arith
+fills v (suc k) [] h each = absurd (omega arith)
+fills v (suc k) (t ∷ ts) h each =
+    let rest = fills v k ts (omega arith) (λ j l. each (suc j) (omega arith)) in
+    rw (eq-eqb t v (each zero (omega arith))) (omega arith)
+
+-- the left end stands m + 1 times, so the knot behind it lies above it
+pub repeats-least : (m : ℕ) (c : Curve) → Passes m (c .knots) (c .xs) (c .ys) → getD (c .knots) m 0 < getD (c .knots) (m + 1) 0
+repeats-least m c passes =
+    let k = checked-of-passes m (c .knots) (c .xs) (c .ys) passes in
+    let up = k .rising m (m + 1) (omega arith) (omega (arith, k .knots, k .enough)) in
+    either (getD (c .knots) m 0) (getD (c .knots) (m + 1) 0) (λ h. h)
+    (λ h.
+    let many = fills (firstKnot (c .knots)) (m + 2) (c .knots) (omega (arith, k .knots, k .enough))
+    (λ j l. either j (m + 1) (λ left. k .firsts j (omega arith)) (λ right.
+    let at : j ≡ m + 1 = omega arith in
+    rw at (level up h ∙ k .firsts m (omega arith)))) in
+    absurd (omega (arith, k .outer (firstKnot (c .knots)))))
+  where
+    level : {a b : ℕ} → a ≤ b → b ≤ a → b ≡ a
+    level h i = omega arith
 
 -- where a value stands
 pub stands-at : (v : ℕ) (ts : List ℕ) → 0 < occurrences v ts → (j : ℕ) × (j < length ts) × (getD ts j 0 ≡ v)

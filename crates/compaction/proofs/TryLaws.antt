@@ -1,80 +1,115 @@
--- One try: v is a knot exactly where the last knot up to it is v; a curve in which it is no knot has nothing to remove.
-use mathlib.Core.Bool.{Bool, true, false, cond, true≢false}
-use mathlib.Core.List.{List, [], _∷_}
+-- One try at the front's end: the window comes back into the lists as it was, or with the newest knot gone.
+use mathlib.Core.Bool.{Bool, true, false}
+use mathlib.Core.List.{List, _++_}
 use mathlib.Core.Path.{_≡_, refl, sym, ap, _∙_}
-use Prim.Native.Nat.{ℕ, zero, suc, _+_, _-_, _≤_, _<_}
+use Prim.Native.Nat.{ℕ, _+_, _-_, _≤_, _<_}
 use native.Mathlib.Omega.{arith}
-use lib.Dec.{eqb}
-use lib.IntN.{ℤ}
-use lib.ListN.{length, getD}
-use borrow.Author.Tests.{eq-eqb}
-use Rattle.grid.specs.Rows.{occurrences}
-use Rattle.grid.proofs.CheckLaws.{passes-tests}
-use Rattle.grid.proofs.SizeLaws.{sizes-of-passes}
-use Rattle.insertion.specs.Insertion.{knotsUpTo, insertedKnots}
+use lib.IntN.{ℤ, pos}
+use lib.ListN.{length, getD, take, drop, length-append, length-drop, take-append-drop}
+use lib.Seq.{length-take-le}
+use Rattle.lent.specs.Lent.{over}
+use Rattle.lent.proofs.OverLaws.{over-entry, over-length}
+use Rattle.insertion.specs.Insertion.{pointAt}
 use Rattle.insertion.proofs.OrderLaws.{either}
-use Rattle.insertion.proofs.SpanLaws.{knotsUpTo-length, knotsUpTo-below, knotsUpTo-above}
-use Rattle.insertion.proofs.KnotLaws.{insertedKnots-length, insertedKnots-here}
-use Rattle.insertion.proofs.CheckedLaws.{rises-of-test}
-use Rattle.removal.specs.Removal.{withoutOne, Reinserts, Removable}
-use Rattle.removal.specs.Polygon.{Inner, PolygonOutcome}
-use Rattle.compaction.specs.Compaction.{Curve}
-use Rattle.compaction.specs.Work.{Within}
+use Rattle.window.specs.Window.{closed, Closed, WindowOutcome}
+use Rattle.window.proofs.ClosedLaws.{closed-length, closed-before, closed-behind}
+use Rattle.compaction.specs.Work.{newest, Growing, TryOutcome}
+use Rattle.compaction.proofs.PartLaws.{put-before, put-inside}
+use Rattle.compaction.proofs.TailLaws.{windowAt, windowKnots, windowPoints, knot-in, window-knots, window-count, tail-stays, tail-removes}
 
--- an entry is one occurrence
-pub occurs-at : (v : ℕ) (ts : List ℕ) (j : ℕ) → j < length ts → getD ts j 0 ≡ v → 0 < occurrences v ts
-unfolding occurrences
-occurs-at v [] j h e = absurd (omega arith)
-occurs-at v (t ∷ ts) zero h e = rw (eq-eqb t v e) (omega arith)
-occurs-at v (t ∷ ts) (suc j) h e = go (eqb t v) (occurs-at v ts j (omega arith) e)
-  where
-    go : (b : Bool) → 0 < occurrences v ts → 0 < cond b (suc (occurrences v ts)) (occurrences v ts)
-    go true s = omega arith
-    go false s = s
+-- a list with `w` in the place of the k entries from a on
+abbrev pub putBack : {A : Type 0} → ℕ → ℕ → List A → List A → List A
+putBack a k l w = take a l ++ (w ++ drop k (drop a l))
 
-module _ (m : ℕ) (c : Curve) (v : ℕ) (w : Within m v c) where
-  rises : (a b : ℕ) → a ≤ b → b < length (c .knots) → getD (c .knots) a 0 ≤ getD (c .knots) b 0
-  rises = rises-of-test (c .knots) (passes-tests m (c .knots) (c .xs) (c .ys) (w .passes) .order)
+put-same : {A : Type 0} (a k : ℕ) (l w : List A) → w ≡ take k (drop a l) → putBack a k l w ≡ l
+put-same {A} a k l w e =
+    ap (λ (x : List A). take a l ++ (x ++ drop k (drop a l))) e
+    ∙ ap (λ (x : List A). take a l ++ x) (take-append-drop k (drop a l)) ∙ take-append-drop a l
 
-  -- some knot is up to v, and not all of them
-  pub some-up-to : (1 ≤ knotsUpTo v (c .knots)) × (knotsUpTo v (c .knots) < length (c .knots))
-  some-up-to =
-      let s = sizes-of-passes m (c .knots) (c .xs) (c .ys) (w .passes) in (
-        either 0 (knotsUpTo v (c .knots)) (λ h. h)
-            (λ h.
-            let none : knotsUpTo v (c .knots) ≡ 0 = omega arith in
-            let first = knotsUpTo-above v (c .knots) (omega (arith, s .knots)) in
-            absurd (omega (arith, rises (knotsUpTo v (c .knots)) m (omega arith) (omega (arith, s .knots)), w .left))),
-        either (knotsUpTo v (c .knots)) (length (c .knots)) (λ h. h)
-            (λ h. absurd (omega (arith, knotsUpTo-below v (c .knots) (length (c .xs)) (omega (arith, s .knots)), w .right))),
-      )
+put-length : {A : Type 0} (a k : ℕ) (l w : List A) → a + k ≤ length l → length w ≡ k → length (putBack a k l w) ≡ length l
+put-length a k l w fits e =
+    length-append (take a l) (w ++ drop k (drop a l))
+    ∙ omega (arith, length-take-le a l (omega arith), length-append w (drop k (drop a l)), length-drop k (drop a l), length-drop a l)
 
-  -- v is an inner knot
-  pub inner-here : getD (c .knots) (knotsUpTo v (c .knots) - 1) 0 ≡ v → Inner m (c .knots) (c .xs) (c .ys) v
-  inner-here e =
+module _ (m n : ℕ) (ks : List ℕ) (xs ys : List ℤ) (g : Growing m n ks xs ys) (last : newest n ks < getD ks n 0) (wk : List ℕ) (wx wy : List ℤ) where
+  abbrev knotsAfter : List ℕ
+  knotsAfter = putBack (n - m - 2) (n + m + 1 - (n - m - 2)) ks wk
+
+  abbrev pointsAfter : List ℤ → List ℤ → List ℤ
+  pointsAfter ps w = putBack (n - m - 2) (n - (n - m - 2)) ps w
+
+  fits : windowAt m n ≤ length ks
+  fits = omega (arith, g .holding .roomKnots)
+
+  module _ (solved : Closed m (windowKnots m n ks) (windowPoints m n xs) (windowPoints m n ys) wk wx wy) where
+    long : length wk ≡ m + m + 3
+    long =
+        ap length (solved .newKnots)
+        ∙ over-length (closed m (windowKnots m n ks)) (windowKnots m n ks) (omega (arith, closed-length m (windowKnots m n ks) (window-knots m n ks xs ys g last), window-knots m n ks xs ys g last))
+        ∙ window-knots m n ks xs ys g last
+
+    new-knot : (j : ℕ) → j < m + m + 2 → getD knotsAfter (windowAt m n + j) 0 ≡ getD (closed m (windowKnots m n ks)) j 0
+    new-knot j h =
+        put-inside 0 (windowAt m n) ks wk (drop (n + m + 1 - (n - m - 2)) (drop (n - m - 2) ks)) j fits (omega (arith, long))
+        ∙ ap (λ (l : List ℕ). getD l j 0) (solved .newKnots)
+        ∙ over-entry (closed m (windowKnots m n ks)) (windowKnots m n ks) j 0 (omega (arith, closed-length m (windowKnots m n ks) (window-knots m n ks xs ys g last)))
+
+    -- the points of one axis
+    module _ (ps w q : List ℤ) (room : n ≤ length ps) (count : length q + 1 ≡ length (windowPoints m n ps)) (e : w ≡ over q (windowPoints m n ps)) where
+      wide : length w ≡ m + 2
+      wide = ap length e ∙ over-length q (windowPoints m n ps) (omega arith) ∙ window-count m n ks xs ys g last ps room
+
+      after-size : length (pointsAfter ps w) ≡ length ps
+      after-size = put-length (n - m - 2) (n - (n - m - 2)) ps w (omega (arith, g .enough)) (omega (arith, wide, g .enough))
+
+      after-before : (j : ℕ) → j < windowAt m n → pointAt (pointsAfter ps w) j ≡ pointAt ps j
+      after-before j h = put-before (pos 0) (windowAt m n) ps w (drop (n - (n - m - 2)) (drop (n - m - 2) ps)) j (omega arith) h
+
+      after-new : (j : ℕ) → j < m + 1 → pointAt (pointsAfter ps w) (windowAt m n + j) ≡ pointAt q j
+      after-new j h =
+          put-inside (pos 0) (windowAt m n) ps w (drop (n - (n - m - 2)) (drop (n - m - 2) ps)) j (omega arith) (omega (arith, wide))
+          ∙ ap (λ (l : List ℤ). pointAt l j) e
+          ∙ over-entry q (windowPoints m n ps) j (pos 0) (omega (arith, window-count m n ks xs ys g last ps room))
+
+  pub try-outcome : (r : Bool) → WindowOutcome m (windowKnots m n ks) (windowPoints m n xs) (windowPoints m n ys) wk wx wy r
+      → TryOutcome m n ks xs ys knotsAfter (pointsAfter xs wx) (pointsAfter ys wy) r
+  try-outcome r o =
       record {
-        passes = w .passes;
-        low = w .left;
-        high = w .right;
-        present = occurs-at v (c .knots) (knotsUpTo v (c .knots) - 1) (omega (arith, some-up-to .0, some-up-to .1)) e;
+        removed = λ t.
+            let s = o .removed t in
+            let roomX = g .holding .roomXs in
+            let roomY = g .holding .roomYs in
+            record {
+              removes = λ rk rx ry p.
+                  tail-removes m n ks xs ys g last rk rx ry p knotsAfter (pointsAfter xs wx) (pointsAfter ys wy) wk wx wy s
+                  (put-length (n - m - 2) (n + m + 1 - (n - m - 2)) ks wk (omega (arith, g .enough, g .holding .roomKnots)) (omega (arith, long s, g .enough)))
+                  (after-size s xs wx (s .px) roomX (s .onX .count) (s .newXs)) (after-size s ys wy (s .py) roomY (s .onY .count) (s .newYs))
+                  (λ j h. put-before 0 (windowAt m n) ks wk (drop (n + m + 1 - (n - m - 2)) (drop (n - m - 2) ks)) j fits h)
+                  (after-before s xs wx (s .px) roomX (s .onX .count) (s .newXs)) (after-before s ys wy (s .py) roomY (s .onY .count) (s .newYs))
+                  (new-knot s)
+                  (after-new s xs wx (s .px) roomX (s .onX .count) (s .newXs)) (after-new s ys wy (s .py) roomY (s .onY .count) (s .newYs));
+              before = λ j h. either j (windowAt m n)
+                  (λ left. put-before 0 (windowAt m n) ks wk (drop (n + m + 1 - (n - m - 2)) (drop (n - m - 2) ks)) j fits left)
+                  (λ right.
+                  let at : windowAt m n + (j - windowAt m n) ≡ j = omega arith in
+                  rw at at (new-knot s (j - windowAt m n) (omega (arith, g .enough))
+                  ∙ closed-before m (windowKnots m n ks) (window-knots m n ks xs ys g last) (j - windowAt m n) (omega (arith, g .enough))
+                  ∙ knot-in m n ks xs ys g last (j - windowAt m n) (omega (arith, g .enough))));
+              behind = λ j h i.
+                  let at : windowAt m n + (j - windowAt m n) ≡ j = omega (arith, g .enough) in
+                  let to : windowAt m n + (j - windowAt m n + 1) ≡ j + 1 = omega (arith, g .enough) in
+                  ap (λ (k : ℕ). getD knotsAfter k 0) (sym at)
+                  ∙ new-knot s (j - windowAt m n) (omega (arith, g .enough))
+                  ∙ closed-behind m (windowKnots m n ks) (window-knots m n ks xs ys g last) (j - windowAt m n) (omega (arith, g .enough))
+                  ∙ knot-in m n ks xs ys g last (j - windowAt m n + 1) (omega (arith, g .enough))
+                  ∙ ap (λ (k : ℕ). getD ks k 0) to;
+            };
+        kept = λ t.
+            let s = o .kept t in
+            record {
+              stays = λ rk rx ry p. tail-stays m n ks xs ys g last rk rx ry p wk wx wy s;
+              sameKnots = put-same (n - m - 2) (n + m + 1 - (n - m - 2)) ks wk (s .sameKnots);
+              sameXs = put-same (n - m - 2) (n - (n - m - 2)) xs wx (s .sameXs);
+              sameYs = put-same (n - m - 2) (n - (n - m - 2)) ys wy (s .sameYs);
+            };
       }
-
-  -- v is no knot: nothing can be removed
-  pub none-here : (getD (c .knots) (knotsUpTo v (c .knots) - 1) 0 ≡ v → ⊥) → Removable m (c .knots) (c .xs) (c .ys) v → ⊥
-  none-here n r =
-      let ks = withoutOne v (c .knots) in
-      let at = knotsUpTo v (withoutOne v (c .knots)) in
-      let gives = r .reinserts .givesKnots in
-      let here : getD (c .knots) (knotsUpTo v (withoutOne v (c .knots))) 0 ≡ v =
-      ap (λ (l : List ℕ). getD l (knotsUpTo v (withoutOne v (c .knots))) 0) (sym gives) ∙ insertedKnots-here (withoutOne v (c .knots)) v in
-      let size : length (withoutOne v (c .knots)) + 1 ≡ length (c .knots) = sym (insertedKnots-length (withoutOne v (c .knots)) v) ∙ ap length gives in
-      let inside = knotsUpTo-length v (withoutOne v (c .knots)) in
-      either (knotsUpTo v (withoutOne v (c .knots))) (knotsUpTo v (c .knots))
-      (λ before.
-      n (last-is (omega (arith, rises (knotsUpTo v (withoutOne v (c .knots))) (knotsUpTo v (c .knots) - 1) (omega arith) (omega (arith, some-up-to .1)), here))
-      (knotsUpTo-below v (c .knots) (knotsUpTo v (c .knots) - 1) (omega (arith, some-up-to .0)))))
-      (λ behind.
-      omega (arith, knotsUpTo-above v (c .knots) (some-up-to .1), rises (knotsUpTo v (c .knots)) (knotsUpTo v (withoutOne v (c .knots))) behind (omega arith), here))
-    where
-      last-is : {a b : ℕ} → b ≤ a → a ≤ b → a ≡ b
-      last-is h k = omega arith

@@ -1,58 +1,41 @@
-// The parts of compacting a curve ("Inserting and removing a knot"), on working lists that hold the curve at their front.
-mod next;
-mod trying;
+// The parts of compacting a curve ("Inserting and removing a knot"). The curve comes into working lists point by point; as soon as the last knot
+// of a value is there, the value is dealt with. A removal changes the last few points alone, so a pass takes time in proportion to the lists.
+mod settling;
 
-ghost use Rattle.compaction.specs.Work.{frontCurve, Holding, Within, FrontPasses, WhileOutcome, PassOutcome};
+ghost use Rattle.grid.specs.Check.{Passes};
+ghost use Rattle.compaction.specs.Compaction.{Curve};
+ghost use Rattle.compaction.specs.Work.{Holding, PassOutcome};
+ghost use lib.ListN.{length};
 
-// Removes v while its removal is accepted; answers the number of points that are left.
-pub fn remove_while(
+// One pass over the inner values, from left to right: what is left of the curve stands at the front of the last three lists.
+// Answers the number of points that are left.
+pub fn compact_into(
     m: usize,
-    n: usize,
-    v: u16,
-    knots: &mut [u16],
-    xs: &mut [i32],
-    ys: &mut [i32],
-    work_knots: &mut [u16],
-    work_xs: &mut [i32],
-    work_ys: &mut [i32],
+    knots: &[u16],
+    xs: &[i32],
+    ys: &[i32],
+    front_knots: &mut [u16],
+    front_xs: &mut [i32],
+    front_ys: &mut [i32],
 ) -> usize
-    requires { ⌜ Within m v (frontCurve m n (now knots) (now xs) (now ys)) ⌝ }
-    requires { ⌜ Holding m n (now knots) (now xs) (now ys) ⌝ }
-    requires { ⌜ Holding m n (now «work_knots») (now «work_xs») (now «work_ys») ⌝ }
-    ensures answer { λ r. ⌜ WhileOutcome m v n (frontCurve m n (now (knots .entry)) (now (xs .entry)) (now (ys .entry))) (now (knots .exit)) (now (xs .exit)) (now (ys .exit)) r ⌝ }
+    requires { ⌜ Passes m (now knots) (now xs) (now ys) ⌝ }
+    requires { ⌜ Holding m (length (now xs)) (now «front_knots») (now «front_xs») (now «front_ys») ⌝ }
+    ensures answer { λ r. ⌜ PassOutcome m (length (now (xs .entry))) (record { knots = now (knots .entry); xs = now (xs .entry); ys = now (ys .entry) }) (now («front_knots» .exit)) (now («front_xs» .exit)) (now («front_ys» .exit)) r ⌝ }
 {
-    let mut left = n;
-    while trying::remove_once(m, left, v, knots, xs, ys, work_knots, work_xs, work_ys) {
-        left -= 1;
-    }
-    left
-}
-
-// One pass over the inner values, from left to right; answers the number of points that are left.
-pub fn compact_front(
-    m: usize,
-    n: usize,
-    knots: &mut [u16],
-    xs: &mut [i32],
-    ys: &mut [i32],
-    work_knots: &mut [u16],
-    work_xs: &mut [i32],
-    work_ys: &mut [i32],
-) -> usize
-    requires { ⌜ FrontPasses m n (now knots) (now xs) (now ys) ⌝ }
-    requires { ⌜ Holding m n (now knots) (now xs) (now ys) ⌝ }
-    requires { ⌜ Holding m n (now «work_knots») (now «work_xs») (now «work_ys») ⌝ }
-    ensures answer { λ r. ⌜ PassOutcome m n (frontCurve m n (now (knots .entry)) (now (xs .entry)) (now (ys .entry))) (now (knots .exit)) (now (xs .exit)) (now (ys .exit)) r ⌝ }
-{
-    let mut left = n;
-    let mut low = knots[m];
-    loop {
-        let v = next::next_above(knots, left + m + 1, low);
-        if knots[left] <= v {
-            break;
-        }
-        left = remove_while(m, left, v, knots, xs, ys, work_knots, work_xs, work_ys);
-        low = v;
+    let n = xs.len();
+    let width = m + 1;
+    let ends = width + width;
+    copying::copy_knots(&knots[..ends], front_knots);
+    copying::copy_coordinates(&xs[..width], front_xs);
+    copying::copy_coordinates(&ys[..width], front_ys);
+    let mut left = width;
+    let mut taken = width;
+    while taken < n {
+        front_knots[left + width] = knots[taken + width];
+        front_xs[left] = xs[taken];
+        front_ys[left] = ys[taken];
+        left = settling::settle(m, left + 1, front_knots, front_xs, front_ys);
+        taken += 1;
     }
     left
 }
