@@ -38,13 +38,12 @@ loaded m c p ks ka xs xa ys ya h a b d =
 pub loaded-passes : (m n : ℕ) (c : Curve) → Passes m (c .knots) (c .xs) (c .ys) → (ka : List ℕ) (xa ya : List ℤ) → frontCurve m n ka xa ya ≡ c → FrontPasses m n ka xa ya
 loaded-passes m n c p ka xa ya e = record { passes = subst (λ (d : Curve). Passes m (d .knots) (d .xs) (d .ys)) (sym e) p }
 
--- lists to work in that are as long as the largest curve needs
-pub longest : (m : ℕ) (c : Curve) → Passes m (c .knots) (c .xs) (c .ys) → (ks : List ℕ) (xs ys : List ℤ) → length ks ≡ 1028 → length xs ≡ 1024 → length ys ≡ 1024
-    → Holding m (length (c .xs)) ks xs ys
-longest m c p ks xs ys a b d =
+-- lists for so many points hold a curve that has no more
+pub held : (points m : ℕ) (c : Curve) → Passes m (c .knots) (c .xs) (c .ys) → length (c .xs) ≤ points
+    → (ks : List ℕ) (xs ys : List ℤ) → length ks ≡ points + 4 → length xs ≡ points → length ys ≡ points → Holding m (length (c .xs)) ks xs ys
+held points m c p within ks xs ys a b d =
     let s = sizes-of-passes m (c .knots) (c .xs) (c .ys) p in
-    record
-    { roomKnots = omega (arith, s .most, s .degree-most); roomXs = omega (arith, s .most); roomYs = omega (arith, s .most) }
+    record { roomKnots = omega (arith, s .degree-most); roomXs = omega arith; roomYs = omega arith }
 
 -- handing over, list after list
 module _ (m left n : ℕ) (ks : List ℕ) (xs ys : List ℤ) (h : Holding m left ks xs ys) (kb : List ℕ) (xb yb : List ℤ) where

@@ -5,6 +5,4 @@ pub mod TailLaws
 pub mod TryLaws
 pub mod SettleLaws
 pub mod GrowLaws
-
-
 pub mod PassLaws
