@@ -1,20 +1,21 @@
 -- The curve comes point by point: what has come and what is still to come are the whole curve, with the values below `low` dealt with.
+use mathlib.Core.Bool.{true}
 use mathlib.Core.List.{List, [], _∷_, _++_, append-assoc, append-nil}
 use mathlib.Core.Path.{_≡_, refl, sym, ap, _∙_, subst}
-use Prim.Native.Nat.{ℕ, zero, suc, _+_, _-_, _≤_, _<_}
+use Prim.Native.Nat.{ℕ, suc, _+_, _-_, _≤_, _<_}
 use native.Mathlib.Omega.{arith}
 use lib.IntN.{ℤ, pos}
 use lib.ListN.{length, getD, take, drop, set, length-set, length-drop, drop-of-length-le, take-append-drop}
-use lib.Seq.{take-suc-set, drop-cons, append-snoc, getD-set-other, length-take-le}
+use lib.Seq.{take-suc-set, drop-cons, getD-set-other, length-take-le}
 use Rattle.lent.specs.Lent.{over}
-use Rattle.grid.specs.Rows.{occurrences}
+use Rattle.grid.specs.Rows.{rangeOk, allOnGrid}
+use Rattle.grid.proofs.OrderLaws.{both}
 use Rattle.grid.proofs.CheckLaws.{passes-tests}
 use Rattle.grid.proofs.SizeLaws.{sizes-of-passes}
-use Rattle.checked.proofs.CheckedLaws.{checked-of-passes}
 use Rattle.insertion.proofs.OrderLaws.{either}
-use Rattle.insertion.proofs.CheckedLaws.{rises-of-test}
+use Rattle.insertion.proofs.CheckedLaws.{rises-of-test, sizes-of-grid}
 use Rattle.compaction.specs.Compaction.{Curve, IsNext, Pass, done, next}
-use Rattle.compaction.specs.Work.{frontCurve, frontThen, CurvePasses, Holding, newest, Growing, SettleOutcome, PassOutcome}
+use Rattle.compaction.specs.Work.{frontCurve, frontThen, CurvePasses, Holding, newest, OnGridTo, Growing, SettleOutcome, PassOutcome}
 use Rattle.compaction.proofs.PartLaws.{glue-front, glue-length}
 use Rattle.compaction.proofs.FrontLaws.{copied-front, curve-is}
 use Rattle.compaction.proofs.PassLaws.{occurs-at, stands-at, repeats-least}
@@ -153,6 +154,22 @@ module _ (m : ℕ) (c : Curve) (passing : CurvePasses m c) (ks₀ : List ℕ) (x
       rises₁ : (a b : ℕ) → a ≤ b → b < length ts₁ → getD ts₁ a 0 ≤ getD ts₁ b 0
       rises₁ = rises-of-test ts₁ (passes-tests m ts₁ (take (left + 1) xs₁ ++ drop (taken + 1) (c .xs)) (take (left + 1) ys₁ ++ drop (taken + 1) (c .ys)) passes₁ .order)
 
+      -- the points that have come are on the grid
+      ranged : (ps rest : List ℤ) → left + 1 ≤ length ps → allOnGrid (take (left + 1) ps ++ rest) ≡ true → OnGridTo (left + 1) ps
+      ranged ps rest room h j l = rw (sym (glue-front (pos 0) (left + 1) ps rest j room l)) (sizes-of-grid (take (left + 1) ps ++ rest) h j)
+
+      on-grid : (allOnGrid (take (left + 1) xs₁ ++ drop (taken + 1) (c .xs)) ≡ true) × (allOnGrid (take (left + 1) ys₁ ++ drop (taken + 1) (c .ys)) ≡ true)
+      unfolding rangeOk
+      on-grid =
+          both (allOnGrid (take (left + 1) xs₁ ++ drop (taken + 1) (c .xs))) (allOnGrid (take (left + 1) ys₁ ++ drop (taken + 1) (c .ys)))
+          (passes-tests m ts₁ (take (left + 1) xs₁ ++ drop (taken + 1) (c .xs)) (take (left + 1) ys₁ ++ drop (taken + 1) (c .ys)) passes₁ .range)
+
+      roomy-xs : left + 1 ≤ length xs₁
+      roomy-xs = rw (length-set xs left (getD (c .xs) taken (pos 0))) (omega (arith, room-xs))
+
+      roomy-ys : left + 1 ≤ length ys₁
+      roomy-ys = rw (length-set ys left (getD (c .ys) taken (pos 0))) (omega (arith, room-ys))
+
       pub one-more : Growing m (left + 1) ks₁ xs₁ ys₁
       one-more =
           let s = sizes-of-passes m (c .knots) (c .xs) (c .ys) passing in
@@ -164,11 +181,13 @@ module _ (m : ℕ) (c : Curve) (passing : CurvePasses m c) (ks₀ : List ℕ) (x
             holding =
                 record {
                   roomKnots = roomy;
-                  roomXs = rw (length-set xs left (getD (c .xs) taken (pos 0))) (omega (arith, room-xs));
-                  roomYs = rw (length-set ys left (getD (c .ys) taken (pos 0))) (omega (arith, room-ys));
+                  roomXs = roomy-xs;
+                  roomYs = roomy-ys;
                 };
             rises = λ a b h i. omega (arith, front-knot a (omega arith), front-knot b i, rises₁ a b h (omega (arith, count₁)));
             inner = rw at (omega (arith, old-knot m (omega (arith, w .enough)), old-knot left (omega arith), w .first, w .above, w .below));
+            rangeXs = ranged xs₁ (drop (taken + 1) (c .xs)) roomy-xs (on-grid .0);
+            rangeYs = ranged ys₁ (drop (taken + 1) (c .ys)) roomy-ys (on-grid .1);
           }
 
       -- the newest knot is the next value
@@ -183,7 +202,7 @@ module _ (m : ℕ) (c : Curve) (passing : CurvePasses m c) (ks₀ : List ℕ) (x
       is-next : newest (left + 1) ks₁ < getD ks₁ (left + 1) 0 → IsNext m (w .low) (comes m c (left + 1) (taken + 1) ks₁ xs₁ ys₁) (newest (left + 1) ks₁)
       is-next last =
           let s = sizes-of-passes m ts₁ (take (left + 1) xs₁ ++ drop (taken + 1) (c .xs)) (take (left + 1) ys₁ ++ drop (taken + 1) (c .ys)) passes₁ in
-          let count = glue-length (left + 1) xs₁ (drop (taken + 1) (c .xs)) (rw (length-set xs left (getD (c .xs) taken (pos 0))) (omega (arith, room-xs))) in
+          let count = glue-length (left + 1) xs₁ (drop (taken + 1) (c .xs)) roomy-xs in
           record {
             above = omega (arith, newest-is, w .below);
             left = omega (arith, front-knot m (omega (arith, w .enough)), old-knot m (omega (arith, w .enough)), w .first, w .above, w .below, newest-is);

@@ -15,7 +15,7 @@ use Rattle.insertion.proofs.CheckedLaws.{rises-of-test}
 use Rattle.insertion.proofs.JudgedLaws.{accepted-of-number}
 use Rattle.removal.specs.Removal.{withoutOne, Removable}
 use Rattle.compaction.specs.Compaction.{Curve, Removes, Stays, RemovesWhile, stays, goesOn}
-use Rattle.compaction.specs.Work.{frontThen, CurvePasses, Holding, newest, Growing, Shorter, Fixed, Settled, Waiting, SettleOutcome}
+use Rattle.compaction.specs.Work.{frontThen, CurvePasses, Holding, newest, OnGridTo, Growing, Shorter, Fixed, SettleOutcome}
 use Rattle.compaction.proofs.PartLaws.{glue-front, glue-length}
 
 -- a curve with one v fewer passes the check
@@ -50,6 +50,8 @@ pub record Going (m n : ℕ) (ks₀ : List ℕ) (xs₀ ys₀ : List ℤ) (v : �
   pub below : newest left ks ≤ newest n ks₀
   pub next : getD ks left 0 ≡ getD ks₀ n 0
   pub first : getD ks m 0 ≡ getD ks₀ m 0
+  pub rangeXs : OnGridTo left xs
+  pub rangeYs : OnGridTo left ys
   pub passes : (rk : List ℕ) (rx ry : List ℤ) → CurvePasses m (frontThen m n ks₀ xs₀ ys₀ rk rx ry) → CurvePasses m (frontThen m left ks xs ys rk rx ry)
   pub chain : (rk : List ℕ) (rx ry : List ℤ) → CurvePasses m (frontThen m n ks₀ xs₀ ys₀ rk rx ry) → (e : Curve)
       → RemovesWhile m (newest n ks₀) (frontThen m left ks xs ys rk rx ry) e → RemovesWhile m (newest n ks₀) (frontThen m n ks₀ xs₀ ys₀ rk rx ry) e
@@ -76,6 +78,8 @@ module _ (m n : ℕ) (ks₀ : List ℕ) (xs₀ ys₀ : List ℤ) (g : Growing m 
         below = omega arith;
         next = refl;
         first = refl;
+        rangeXs = g .rangeXs;
+        rangeYs = g .rangeYs;
         passes = λ rk rx ry p. p;
         chain = λ rk rx ry p e w. w;
       }
@@ -132,6 +136,8 @@ module _ (m n : ℕ) (ks₀ : List ℕ) (xs₀ ys₀ : List ℤ) (g : Growing m 
             holding = going-holds;
             rises = w .rises;
             inner = omega (arith, w .first, g .inner, same);
+            rangeXs = w .rangeXs;
+            rangeYs = w .rangeYs;
           }
 
       module _ (ks′ : List ℕ) (xs′ ys′ : List ℤ) where
@@ -158,6 +164,8 @@ module _ (m n : ℕ) (ks₀ : List ℕ) (xs₀ ys₀ : List ℤ) (g : Growing m 
                   let at : left - 1 + 1 ≡ left = omega arith in
                   s .behind (left - 1) (omega arith) (omega arith) ∙ ap (λ (k : ℕ). getD ks k 0) at ∙ w .next;
               first = s .before m (omega arith) ∙ w .first;
+              rangeXs = s .rangeXs;
+              rangeYs = s .rangeYs;
               passes = λ rk rx ry p. removes-passes m (newest left ks) (frontThen m left ks xs ys rk rx ry) (frontThen m (left - 1) ks′ xs′ ys′ rk rx ry) (s .removes rk rx ry (w .passes rk rx ry p));
               chain = λ rk rx ry p e u.
                   w .chain rk rx ry p e (goesOn (subst (λ (x : ℕ). Removes m x (frontThen m left ks xs ys rk rx ry) (frontThen m (left - 1) ks′ xs′ ys′ rk rx ry)) same (s .removes rk rx ry (w .passes rk rx ry p))) u);

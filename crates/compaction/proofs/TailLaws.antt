@@ -5,7 +5,7 @@ use mathlib.Core.Path.{_≡_, refl, sym, ap, _∙_}
 use Prim.Native.Nat.{ℕ, suc, _+_, _-_, _≤_, _<_}
 use native.Mathlib.Omega.{arith}
 use lib.IntN.{ℤ, pos, natAbs}
-use lib.ListN.{length, getD, take, drop, length-drop}
+use lib.ListN.{length, getD, take, drop, length-drop, List·getD-eq-default}
 use lib.Seq.{length-take-le, ext-getD}
 use Rattle.lent.proofs.OverLaws.{over-entry, over-length}
 use Rattle.grid.specs.Limits.{coordinateMost}
@@ -18,14 +18,14 @@ use Rattle.insertion.proofs.OrderLaws.{either}
 use Rattle.insertion.proofs.SpanLaws.{knotsUpTo-above, span-of-upTo}
 use Rattle.insertion.proofs.CheckedLaws.{rises-of-test, sizes-of-grid}
 use Rattle.removal.specs.Removal.{withoutOne, Removable}
-use Rattle.removal.specs.Axis.{AxisReinserts}
+use Rattle.removal.specs.Axis.{Ranged, AxisReinserts}
 use Rattle.removal.specs.Polygon.{Inner}
 use Rattle.removal.proofs.PolygonLaws.{fewer-length, fewer-right, fewer-reduced, knot-before, knot-here, knot-behind, polygon-reinserts, reinserts-xs, reinserts-ys}
 use Rattle.window.specs.Window.{middle, closed, Window, Closed, Stuck}
 use Rattle.window.proofs.ClosedLaws.{closed-length, closed-before, closed-behind, closed-span, closed-reduced}
 use Rattle.window.proofs.LocalLaws.{narrow, widen}
 use Rattle.compaction.specs.Compaction.{Curve, Removes, Stays}
-use Rattle.compaction.specs.Work.{frontThen, CurvePasses, newest, Growing, Shorter, Fixed}
+use Rattle.compaction.specs.Work.{frontThen, CurvePasses, newest, OnGridTo, Growing}
 use Rattle.compaction.proofs.PartLaws.{part-entry, put-before, put-inside, glue-front, glue-rest, glue-length}
 use Rattle.compaction.proofs.PassLaws.{occurs-at}
 
@@ -59,6 +59,12 @@ module _ (m n : ℕ) (ks : List ℕ) (xs ys : List ℤ) (g : Growing m n ks xs y
       let at : windowAt m n + (m + 1) ≡ n - 1 = omega (arith, g .enough) in
       knot-in (m + 1) (omega arith) ∙ ap (λ (k : ℕ). getD ks k 0) at
 
+  ranged : (ps : List ℤ) → n ≤ length ps → OnGridTo n ps → Ranged (windowPoints m n ps)
+  ranged ps room range j =
+      either j (m + 2)
+      (λ l. rw (point-in ps j l) (range (windowAt m n + j) (omega (arith, g .enough))))
+      (λ l. rw (List·getD-eq-default (windowPoints m n ps) (pos 0) {n = j} (omega (arith, window-count ps room))) (omega arith))
+
   pub window-is : Window m (windowKnots m n ks) (windowPoints m n xs) (windowPoints m n ys)
   window-is =
       let at : windowAt m n + (m + 2) ≡ n = omega (arith, g .enough) in
@@ -72,6 +78,8 @@ module _ (m n : ℕ) (ks : List ℕ) (xs ys : List ℤ) (g : Growing m n ks xs y
         rises = λ a b h inside.
             omega (arith, knot-in a (omega (arith, window-knots)), knot-in b (omega (arith, window-knots)), g .rises (windowAt m n + a) (windowAt m n + b) (omega arith) (omega (arith, window-knots, g .enough)));
         last = omega (arith, middle-is, next);
+        rangedXs = ranged xs (g .holding .roomXs) (g .rangeXs);
+        rangedYs = ranged ys (g .holding .roomYs) (g .rangeYs);
       }
 
   -- a curve that the front begins

@@ -4,7 +4,7 @@ use mathlib.Core.List.{List, _++_}
 use mathlib.Core.Path.{_≡_, refl, sym, ap, _∙_}
 use Prim.Native.Nat.{ℕ, _+_, _-_, _≤_, _<_}
 use native.Mathlib.Omega.{arith}
-use lib.IntN.{ℤ, pos}
+use lib.IntN.{ℤ, pos, natAbs}
 use lib.ListN.{length, getD, take, drop, length-append, length-drop, take-append-drop}
 use lib.Seq.{length-take-le}
 use Rattle.lent.specs.Lent.{over}
@@ -13,7 +13,8 @@ use Rattle.insertion.specs.Insertion.{pointAt}
 use Rattle.insertion.proofs.OrderLaws.{either}
 use Rattle.window.specs.Window.{closed, Closed, WindowOutcome}
 use Rattle.window.proofs.ClosedLaws.{closed-length, closed-before, closed-behind}
-use Rattle.compaction.specs.Work.{newest, Growing, TryOutcome}
+use Rattle.grid.specs.Limits.{coordinateMost}
+use Rattle.compaction.specs.Work.{newest, OnGridTo, Growing, TryOutcome}
 use Rattle.compaction.proofs.PartLaws.{put-before, put-inside}
 use Rattle.compaction.proofs.TailLaws.{windowAt, windowKnots, windowPoints, knot-in, window-knots, window-count, tail-stays, tail-removes}
 
@@ -71,6 +72,15 @@ module _ (m n : ℕ) (ks : List ℕ) (xs ys : List ℤ) (g : Growing m n ks xs y
           ∙ ap (λ (l : List ℤ). pointAt l j) e
           ∙ over-entry q (windowPoints m n ps) j (pos 0) (omega (arith, window-count m n ks xs ys g last ps room))
 
+      after-range : OnGridTo n ps → ((j : ℕ) → natAbs (pointAt q j) ≤ coordinateMost) → OnGridTo (n - 1) (pointsAfter ps w)
+      after-range old new j h =
+          either j (windowAt m n)
+          (λ left. rw (after-before j left) (old j (omega arith)))
+          (λ right.
+          let at : windowAt m n + (j - windowAt m n) ≡ j = omega arith in
+          let e = rw at at (after-new (j - windowAt m n) (omega (arith, g .enough))) in
+          rw e (new (j - windowAt m n)))
+
   pub try-outcome : (r : Bool) → WindowOutcome m (windowKnots m n ks) (windowPoints m n xs) (windowPoints m n ys) wk wx wy r
       → TryOutcome m n ks xs ys knotsAfter (pointsAfter xs wx) (pointsAfter ys wy) r
   try-outcome r o =
@@ -103,6 +113,8 @@ module _ (m n : ℕ) (ks : List ℕ) (xs ys : List ℤ) (g : Growing m n ks xs y
                   ∙ closed-behind m (windowKnots m n ks) (window-knots m n ks xs ys g last) (j - windowAt m n) (omega (arith, g .enough))
                   ∙ knot-in m n ks xs ys g last (j - windowAt m n + 1) (omega (arith, g .enough))
                   ∙ ap (λ (k : ℕ). getD ks k 0) to;
+              rangeXs = after-range s xs wx (s .px) roomX (s .onX .count) (s .newXs) (g .rangeXs) (s .onX .range);
+              rangeYs = after-range s ys wy (s .py) roomY (s .onY .count) (s .newYs) (g .rangeYs) (s .onY .range);
             };
         kept = λ t.
             let s = o .kept t in

@@ -3,9 +3,11 @@ use mathlib.Core.Bool.{Bool, true, false}
 use mathlib.Core.List.{List, _++_}
 use mathlib.Core.Path.{_≡_}
 use Prim.Native.Nat.{ℕ, _+_, _-_, _≤_, _<_}
-use lib.IntN.{ℤ}
+use lib.IntN.{ℤ, natAbs}
 use lib.ListN.{length, getD, take}
 use Rattle.grid.specs.Check.{Passes}
+use Rattle.grid.specs.Limits.{coordinateMost}
+use Rattle.insertion.specs.Insertion.{pointAt}
 use Rattle.compaction.specs.Compaction.{Curve, Removes, Stays, RemovesWhile, Pass}
 
 -- the curve of n points at the front of the lists
@@ -33,7 +35,11 @@ pub record FrontPasses (m n : ℕ) (ks : List ℕ) (xs ys : List ℤ) : Type 0 w
 abbrev pub newest : ℕ → List ℕ → ℕ
 newest n ks = getD ks (n - 1) 0
 
--- knots that never fall, the newest of them above the left end
+-- the first n coordinates are on the grid
+abbrev pub OnGridTo : ℕ → List ℤ → Type 0
+OnGridTo n ps = (j : ℕ) → j < n → natAbs (pointAt ps j) ≤ coordinateMost
+
+-- knots that never fall, the newest of them above the left end, and points on the grid
 pub record Growing (m n : ℕ) (ks : List ℕ) (xs ys : List ℤ) : Type 0 where
   pub least : 1 ≤ m
   pub most : m ≤ 3
@@ -41,6 +47,8 @@ pub record Growing (m n : ℕ) (ks : List ℕ) (xs ys : List ℤ) : Type 0 where
   pub holding : Holding m n ks xs ys
   pub rises : (a b : ℕ) → a ≤ b → b < n + m + 1 → getD ks a 0 ≤ getD ks b 0
   pub inner : getD ks m 0 < newest n ks
+  pub rangeXs : OnGridTo n xs
+  pub rangeYs : OnGridTo n ys
 
 -- the newest knot is gone, and this is its removal from every curve that the front begins
 pub record Shorter (m n : ℕ) (ks : List ℕ) (xs ys : List ℤ) (ksAfter : List ℕ) (xsAfter ysAfter : List ℤ) : Type 0 where
@@ -48,6 +56,8 @@ pub record Shorter (m n : ℕ) (ks : List ℕ) (xs ys : List ℤ) (ksAfter : Lis
       → Removes m (newest n ks) (frontThen m n ks xs ys rk rx ry) (frontThen m (n - 1) ksAfter xsAfter ysAfter rk rx ry)
   pub before : (j : ℕ) → j < n - 1 → getD ksAfter j 0 ≡ getD ks j 0
   pub behind : (j : ℕ) → n ≤ j + 1 → j < n + m → getD ksAfter j 0 ≡ getD ks (j + 1) 0
+  pub rangeXs : OnGridTo (n - 1) xsAfter
+  pub rangeYs : OnGridTo (n - 1) ysAfter
 
 -- it can be removed from no curve that the front begins, and the lists are as they were
 pub record Fixed (m n : ℕ) (ks : List ℕ) (xs ys : List ℤ) (ksAfter : List ℕ) (xsAfter ysAfter : List ℤ) : Type 0 where
