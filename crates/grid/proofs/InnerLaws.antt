@@ -1,9 +1,9 @@
--- Row 6 where rows 4 and 5 have passed: an end value stands m+1 times already, so no more may follow inside; and no inner knot may equal
--- the m-th after it while that is an inner one too.
+-- Row 6 in knots that never fall and whose ends differ: no value stands too often exactly where, the first knot and the last left out,
+-- none equals the m-th before it.
 use mathlib.Core.Bool.{Bool, true, false, and-false, or-true}
 use mathlib.Core.List.{List}
-use mathlib.Core.Path.{_≡_, refl, sym, _∙_}
-use Prim.Native.Nat.{ℕ, _+_, _-_, _≤_, _<_}
+use mathlib.Core.Path.{_≡_, refl, sym, _∙_, ap}
+use Prim.Native.Nat.{ℕ, zero, suc, _+_, _-_, _≤_, _<_}
 use native.Mathlib.Decide.{ℕ-discrete}
 use native.Mathlib.Omega.{arith}
 use lib.Dec.{eqb, ltb}
@@ -11,7 +11,6 @@ use lib.ListN.{length, getD}
 use borrow.Author.Tests.{eq-eqb, ne-eqb, lt-ltb, le-ltb}
 use Rattle.grid.specs.Rows.{risesFrom, firstKnot, lastKnot, repeatsMost, repeatsOk}
 use Rattle.grid.proofs.RepeatLaws.{rises-between, equalsFar, repeats-hold, repeats-fail}
-use Rattle.grid.proofs.EndLaws.{EndsAre, past-front, before-back, ends-long}
 
 -- a flag that tells of a test both ways is the test
 pub flag-tells : (flag test : Bool) → (flag ≡ true → test ≡ true) → (flag ≡ false → test ≡ false) → flag ≡ test
@@ -45,46 +44,60 @@ far-other m ts j k most n =
       | no q ↦ rw (most, ne-eqb (getD ts (j + k) 0) (getD ts j 0) q) (and-false (ltb (j + k) (length ts)))
     ]
 
-module _ (m : ℕ) (ts : List ℕ) (long : m + 1 ≤ length ts) (rises : risesFrom 0 ts ≡ true) (ends : EndsAre m ts) where
-  size : m + 1 + (m + 1) ≤ length ts
-  size = ends-long m ts long rises ends
-
+module _ (m : ℕ) (ts : List ℕ) (rises : risesFrom 0 ts ≡ true) where
   up : (i j : ℕ) → i ≤ j → j < length ts → getD ts i 0 ≤ getD ts j 0
   up i j o l = rises-between 0 ts i j rises o l
 
-  -- the first value stands once more
-  pub repeats-first : getD ts (m + 1) 0 ≡ firstKnot ts → repeatsOk m ts ≡ false
-  repeats-first e =
-      let there : 0 + (m + 1) ≡ m + 1 = omega arith in
-      repeats-fail m ts rises 0 (omega arith) (far-equal m ts 0 (m + 1) (most-first m ts (firstKnot ts) refl) (omega (arith, size)) (rw there e))
-
-  -- the last value stands once more
-  pub repeats-last : getD ts (length ts - (m + 1) - 1) 0 ≡ lastKnot ts → repeatsOk m ts ≡ false
-  repeats-last e =
-      let at = length ts - (m + 1) - 1 in
-      let there : at + (m + 1) ≡ length ts - 1 = omega (arith, size) in
-      repeats-fail m ts rises at (omega (arith, size)) (far-equal m ts at (m + 1) (most-last m ts (getD ts at 0) e) (omega (arith, size)) (rw there (sym e)))
-
-  module _ (first : getD ts (m + 1) 0 ≡ firstKnot ts → ⊥) (last : getD ts (length ts - (m + 1) - 1) 0 ≡ lastKnot ts → ⊥) where
-    -- an inner value stands once more
-    pub repeats-inner : (i : ℕ) → m + 1 ≤ i → i + m < length ts - (m + 1) → getD ts i 0 ≡ getD ts (i + m) 0 → repeatsOk m ts ≡ false
-    repeats-inner i a b e =
-        let low : getD ts i 0 ≡ firstKnot ts → ⊥ = λ q. first (omega (arith, size, up 0 (m + 1) (omega arith) (omega (arith, size)), up (m + 1) i a (omega arith))) in
-        let high : getD ts i 0 ≡ lastKnot ts → ⊥ = λ q. last (omega (arith, size, up (i + m) (length ts - (m + 1) - 1) (omega arith) (omega arith), up (length ts - (m + 1) - 1) (length ts - 1) (omega arith) (omega arith))) in
-        repeats-fail m ts rises i (omega arith) (far-equal m ts i m (most-inner m ts (getD ts i 0) low high) (omega arith) (sym e))
-
-    -- no value does
-    pub repeats-none : ((i : ℕ) → m + 1 ≤ i → i + m < length ts - (m + 1) → getD ts i 0 ≡ getD ts (i + m) 0 → ⊥) → repeatsOk m ts ≡ true
-    repeats-none none = repeats-hold m ts rises at
-      where
-        at : (j : ℕ) → j < length ts → equalsFar m ts j ≡ false
-        at j l =
-            let v = getD ts j 0 in
-            elim (ℕ-discrete v (firstKnot ts)) [
-              | yes e ↦ far-other m ts j (m + 1) (most-first m ts v e) (λ i q. first (omega (arith, up 0 (m + 1) (omega arith) (omega arith), up (m + 1) (j + (m + 1)) (omega arith) i)))
-              | no a ↦
-                  elim (ℕ-discrete v (lastKnot ts)) [
-                    | yes e ↦ far-other m ts j (m + 1) (most-last m ts v e) (λ i q. last (omega (arith, up j (length ts - (m + 1) - 1) (omega arith) (omega arith), up (length ts - (m + 1) - 1) (length ts - 1) (omega arith) (omega arith))))
-                    | no b ↦ far-other m ts j m (most-inner m ts v a b) (λ i q. none j (past-front m ts long rises ends j a) (before-back m ts long rises ends (j + m) i (λ e. b (sym q ∙ e))) (sym q))
-                  ]
+  -- a knot between the two outermost equals the m-th before it: its value stands too often
+  pub repeats-again : (i : ℕ) → m + 1 ≤ i → i < length ts - 1 → getD ts i 0 ≡ getD ts (i - m) 0 → repeatsOk m ts ≡ false
+  repeats-again i a b e =
+      elim (ℕ-discrete (getD ts i 0) (firstKnot ts)) [
+        | yes q ↦
+            let j = i - (m + 1) in
+            let there : j + (m + 1) ≡ i = omega arith in
+            let here : getD ts j 0 ≡ firstKnot ts = omega (arith, up 0 j (omega arith) (omega arith), up j i (omega arith) (omega arith)) in
+            repeats-fail m ts rises j (omega arith) (far-equal m ts j (m + 1) (most-first m ts (getD ts j 0) here) (omega arith) (rw there (q ∙ sym here)))
+        | no n ↦
+            elim (ℕ-discrete (getD ts i 0) (lastKnot ts)) [
+              | yes q ↦
+                  let j = i - m in
+                  let there : j + (m + 1) ≡ i + 1 = omega arith in
+                  let next : getD ts (i + 1) 0 ≡ lastKnot ts = omega (arith, up i (i + 1) (omega arith) (omega arith), up (i + 1) (length ts - 1) (omega arith) (omega arith)) in
+                  repeats-fail m ts rises j (omega arith) (far-equal m ts j (m + 1) (most-last m ts (getD ts j 0) (sym e ∙ q)) (omega arith) (rw there (next ∙ sym q ∙ e)))
+              | no k ↦
+                  let j = i - m in
+                  let there : j + m ≡ i = omega arith in
+                  repeats-fail m ts rises j (omega arith) (far-equal m ts j m (most-inner m ts (getD ts j 0) (λ q. n (e ∙ q)) (λ q. k (e ∙ q))) (omega arith) (rw there e))
             ]
+      ]
+
+  -- a knot of another value than the first stands behind it, one of another than the last before it
+  behind : (j : ℕ) → (getD ts j 0 ≡ firstKnot ts → ⊥) → 1 ≤ j
+  behind zero n = absurd (n refl)
+  behind (suc j) n = omega arith
+
+  ahead : (j : ℕ) → j < length ts → (getD ts j 0 ≡ lastKnot ts → ⊥) → j < length ts - 1
+  ahead j l n =
+      elim (ℕ-discrete j (length ts - 1)) [
+        | yes e ↦ absurd (n (ap (λ (x : ℕ). getD ts x 0) e))
+        | no k ↦ omega arith
+      ]
+
+  -- none does: no value stands too often
+  pub repeats-none : (firstKnot ts ≡ lastKnot ts → ⊥) → ((i : ℕ) → m + 1 ≤ i → i < length ts - 1 → getD ts i 0 ≡ getD ts (i - m) 0 → ⊥) → repeatsOk m ts ≡ true
+  repeats-none differ none = repeats-hold m ts rises at
+    where
+      at : (j : ℕ) → j < length ts → equalsFar m ts j ≡ false
+      at j l =
+          let v = getD ts j 0 in
+          let far = j + (m + 1) in
+          let after : far - m ≡ j + 1 = omega arith in
+          let back : j + m - m ≡ j = omega arith in
+          elim (ℕ-discrete v (firstKnot ts)) [
+            | yes e ↦ far-other m ts j (m + 1) (most-first m ts v e) (λ i q. none far (omega arith) (ahead far i (λ p. differ (sym e ∙ sym q ∙ p))) (rw after (omega (arith, up j (j + 1) (omega arith) (omega arith), up (j + 1) far (omega arith) i))))
+            | no n ↦
+                elim (ℕ-discrete v (lastKnot ts)) [
+                  | yes e ↦ far-other m ts j (m + 1) (most-last m ts v e) (λ i q. none (j + m) (omega (arith, behind j n)) (omega arith) (rw back (omega (arith, up j (j + m) (omega arith) (omega arith), up (j + m) far (omega arith) i))))
+                  | no k ↦ far-other m ts j m (most-inner m ts v n k) (λ i q. none (j + m) (omega (arith, behind j n)) (ahead (j + m) i (λ p. k (sym q ∙ p))) (rw back q))
+                ]
+          ]

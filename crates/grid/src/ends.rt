@@ -10,14 +10,13 @@ pub(crate) fn ends_ok(m: usize, knots: &[u16]) -> bool
     requires order { ⌜ knotOrderOk (now knots) ≡ true ⌝ }
     ensures answer { λ r. ⌜ r ≡ endsOk m (now (knots .entry)) ⌝ }
 {
-    let count = knots.len();
-    let width = m + 1;
+    let end = knots.len() - 1;
     let first = knots[0];
-    let last = knots[count - 1];
+    let last = knots[end];
     if knots[m] != first {
         return false;
     }
-    if knots[count - width] != last {
+    if knots[end - m] != last {
         return false;
     }
     first != last

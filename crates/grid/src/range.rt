@@ -1,6 +1,5 @@
 // Rows 7 and 14: coordinates and sides on the grid.
 ghost use mathlib.Core.Path.{_≡_};
-ghost use lib.Signed.{leZ};
 ghost use Rattle.grid.specs.Rows.{onGrid, allOnGrid, rangeOk, rectangleOk};
 
 // z is on the grid.
@@ -17,10 +16,10 @@ pub fn on_grid(z: i32) -> bool
 pub fn sides_ok(low_x: i32, high_x: i32, low_y: i32, high_y: i32) -> bool
     ensures answer { λ r. ⌜ r ≡ rectangleOk «low_x» «high_x» «low_y» «high_y» ⌝ }
 {
-    if !rises(low_x, high_x) {
+    if !(low_x <= high_x) {
         return false;
     }
-    if !rises(low_y, high_y) {
+    if !(low_y <= high_y) {
         return false;
     }
     if !on_grid(low_x) {
@@ -33,13 +32,6 @@ pub fn sides_ok(low_x: i32, high_x: i32, low_y: i32, high_y: i32) -> bool
         return false;
     }
     on_grid(high_y)
-}
-
-// low is not above high.
-fn rises(low: i32, high: i32) -> bool
-    ensures answer { λ r. ⌜ r ≡ leZ low high ⌝ }
-{
-    low <= high
 }
 
 pub(crate) fn range_ok(xs: &[i32], ys: &[i32]) -> bool

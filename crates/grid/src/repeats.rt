@@ -4,27 +4,20 @@ ghost use mathlib.Core.Bool.{true};
 ghost use mathlib.Core.Path.{_≡_};
 ghost use Rattle.grid.specs.Rows.{knotOrderOk, endsOk, repeatsOk};
 
-// Where rows 4 and 5 have passed: an end value stands m+1 times already, so the knot next to it must be another; and no inner
-// knot may be the m-th after it again. Looks at every inner knot, whatever it has seen, as range.rt does.
+// An end value may stand once more than another, so without the first knot and the last one each may stand m times: in knots
+// that never fall, none of these equals the m-th before it. Looks at every knot, whatever it has seen, as range.rt does.
 pub(crate) fn repeats_ok(m: usize, knots: &[u16]) -> bool
     requires count { do ⌜ m + 1 ≤ (← ⟦knots.len()⟧) ⌝ }
     requires order { ⌜ knotOrderOk (now knots) ≡ true ⌝ }
     requires ends { ⌜ endsOk m (now knots) ≡ true ⌝ }
     ensures answer { λ r. ⌜ r ≡ repeatsOk m (now (knots .entry)) ⌝ }
 {
-    let count = knots.len();
     let start = m + 1;
-    let end = count - start;
-    if knots[start] == knots[0] {
-        return false;
-    }
-    if knots[end - 1] == knots[count - 1] {
-        return false;
-    }
+    let end = knots.len() - 1;
     let mut fine = true;
     let mut i = start;
-    while i + m < end {
-        if knots[i] == knots[i + m] {
+    while i < end {
+        if knots[i] == knots[i - m] {
             fine = false;
         }
         i += 1;

@@ -7,14 +7,11 @@ use Rattle.grid.proofs.EndLaws.{ends-by}
 use Rattle.grid.proofs.ends.ends_ok.Statement.{statement}
 use Rattle.grid.proofs.ends.ends_ok.Tie as tie
 
-add-width : tie.Need-add-width
-add-width c = search needs
+sub-end : tie.Need-sub-end
+sub-end c = search needs
 
 shared-slice-read-first : tie.Need-shared-slice-read-first
 shared-slice-read-first c = search needs
-
-sub-last : tie.Need-sub-last
-sub-last c = search needs
 
 mul-last : tie.Need-mul-last
 mul-last c = search needs
@@ -59,9 +56,8 @@ pub ends-ok-spec : {M : Type 1} → statement M
 ends-ok-spec =
     tie.close
     (tie.spec
-    add-width
+    sub-end
     shared-slice-read-first
-    sub-last
     mul-last
     shared-slice-read-last
     mul-if1
