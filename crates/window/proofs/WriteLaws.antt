@@ -1,40 +1,44 @@
--- The knots without the middle one are written in two copies.
-use mathlib.Core.List.{List, [], _++_, append-nil}
-use mathlib.Core.Path.{_≡_, refl, sym, ap, _∙_}
-use Prim.Native.Nat.{ℕ, _+_, _-_, _≤_}
+-- The knots without the middle one, written out for each degree.
+use mathlib.Core.List.{List, [], _∷_}
+use mathlib.Core.Path.{_≡_, refl}
+use Prim.Native.Nat.{ℕ}
 use native.Mathlib.Omega.{arith}
-use lib.ListN.{length, take, drop, length-append, length-drop, drop-of-length-le}
-use lib.Seq.{length-take-le, take-all, take-at}
-use Rattle.lent.specs.Lent.{over}
-use Rattle.lent.proofs.ListLaws.{take-rest}
-use Rattle.lent.proofs.OverLaws.{over-length, over-whole}
+use lib.ListN.{length, getD}
 use Rattle.window.specs.Window.{closed}
 
-module _ (m : ℕ) (ts o₀ o₁ o₂ : List ℕ) (size : length ts ≡ m + m + 3) (room : length o₀ ≡ m + m + 2)
-    (first : o₁ ≡ over (take (length o₀) (take (m + 1) ts)) o₀)
-    (second : o₂ ≡ over (take (length (take (length o₁ - (m + 1)) (drop (m + 1) o₁))) (take (length ts - (m + 2)) (drop (m + 2) ts))) (take (length o₁ - (m + 1)) (drop (m + 1) o₁))) where
-  front : length (take (m + 1) ts) ≡ m + 1
-  front = length-take-le (m + 1) ts (omega arith)
+pub closed-linear : (ts : List ℕ) → length ts ≡ 5 → getD ts 0 0 ∷ getD ts 1 0 ∷ getD ts 3 0 ∷ getD ts 4 0 ∷ [] ≡ closed 1 ts
+unfolding closed
+closed-linear (a ∷ b ∷ c ∷ d ∷ e ∷ []) h = refl
+closed-linear [] h = absurd (omega arith)
+closed-linear (a ∷ []) h = absurd (omega arith)
+closed-linear (a ∷ b ∷ []) h = absurd (omega arith)
+closed-linear (a ∷ b ∷ c ∷ []) h = absurd (omega arith)
+closed-linear (a ∷ b ∷ c ∷ d ∷ []) h = absurd (omega arith)
+closed-linear (a ∷ b ∷ c ∷ d ∷ e ∷ f ∷ ts) h = absurd (omega arith)
 
-  half : o₁ ≡ over (take (m + 1) ts) o₀
-  half = first ∙ ap (λ (l : List ℕ). over l o₀) (take-all (length o₀) (take (m + 1) ts) (omega (arith, front)))
+pub closed-quadratic : (ts : List ℕ) → length ts ≡ 7 → getD ts 0 0 ∷ getD ts 1 0 ∷ getD ts 2 0 ∷ getD ts 4 0 ∷ getD ts 5 0 ∷ getD ts 6 0 ∷ [] ≡ closed 2 ts
+unfolding closed
+closed-quadratic (a ∷ b ∷ c ∷ d ∷ e ∷ f ∷ g ∷ []) h = refl
+closed-quadratic [] h = absurd (omega arith)
+closed-quadratic (a ∷ []) h = absurd (omega arith)
+closed-quadratic (a ∷ b ∷ []) h = absurd (omega arith)
+closed-quadratic (a ∷ b ∷ c ∷ []) h = absurd (omega arith)
+closed-quadratic (a ∷ b ∷ c ∷ d ∷ []) h = absurd (omega arith)
+closed-quadratic (a ∷ b ∷ c ∷ d ∷ e ∷ []) h = absurd (omega arith)
+closed-quadratic (a ∷ b ∷ c ∷ d ∷ e ∷ f ∷ []) h = absurd (omega arith)
+closed-quadratic (a ∷ b ∷ c ∷ d ∷ e ∷ f ∷ g ∷ i ∷ ts) h = absurd (omega arith)
 
-  count : length o₁ ≡ m + m + 2
-  count = ap length half ∙ over-length (take (m + 1) ts) o₀ (omega (arith, front)) ∙ room
-
-  kept : take (m + 1) o₁ ≡ take (m + 1) ts
-  kept = ap (take (m + 1)) half ∙ take-at (take (m + 1) ts) (drop (length (take (m + 1) ts)) o₀) (m + 1) front
-
-  rest : o₂ ≡ drop (m + 2) ts
-  rest =
-      let to = take-rest (m + 1) o₁ in
-      let from = take-rest (m + 2) ts in
-      let long : length (drop (m + 1) o₁) ≡ m + 1 = omega (arith, count, length-drop (m + 1) o₁) in
-      let behind : length (drop (m + 2) ts) ≡ m + 1 = omega (arith, length-drop (m + 2) ts) in
-      second ∙ rw (to, from, take-all (length (drop (m + 1) o₁)) (drop (m + 2) ts) (omega arith)) (over-whole (drop (m + 2) ts) (drop (m + 1) o₁) (omega arith))
-
-  pub closed-written : take (m + 1) o₁ ++ (o₂ ++ drop (length o₁ - (m + 1)) (drop (m + 1) o₁)) ≡ closed m ts
-  unfolding closed
-  closed-written =
-      let none : drop (length o₁ - (m + 1)) (drop (m + 1) o₁) ≡ [] = drop-of-length-le (drop (m + 1) o₁) {i = length o₁ - (m + 1)} (omega (arith, count, length-drop (m + 1) o₁)) in
-      rw (kept, rest, none) (ap (λ (l : List ℕ). take (m + 1) ts ++ l) (append-nil (drop (m + 2) ts)))
+pub closed-cubic : (ts : List ℕ) → length ts ≡ 9
+    → getD ts 0 0 ∷ getD ts 1 0 ∷ getD ts 2 0 ∷ getD ts 3 0 ∷ getD ts 5 0 ∷ getD ts 6 0 ∷ getD ts 7 0 ∷ getD ts 8 0 ∷ [] ≡ closed 3 ts
+unfolding closed
+closed-cubic (a ∷ b ∷ c ∷ d ∷ e ∷ f ∷ g ∷ i ∷ j ∷ []) h = refl
+closed-cubic [] h = absurd (omega arith)
+closed-cubic (a ∷ []) h = absurd (omega arith)
+closed-cubic (a ∷ b ∷ []) h = absurd (omega arith)
+closed-cubic (a ∷ b ∷ c ∷ []) h = absurd (omega arith)
+closed-cubic (a ∷ b ∷ c ∷ d ∷ []) h = absurd (omega arith)
+closed-cubic (a ∷ b ∷ c ∷ d ∷ e ∷ []) h = absurd (omega arith)
+closed-cubic (a ∷ b ∷ c ∷ d ∷ e ∷ f ∷ []) h = absurd (omega arith)
+closed-cubic (a ∷ b ∷ c ∷ d ∷ e ∷ f ∷ g ∷ []) h = absurd (omega arith)
+closed-cubic (a ∷ b ∷ c ∷ d ∷ e ∷ f ∷ g ∷ i ∷ []) h = absurd (omega arith)
+closed-cubic (a ∷ b ∷ c ∷ d ∷ e ∷ f ∷ g ∷ i ∷ j ∷ k ∷ ts) h = absurd (omega arith)

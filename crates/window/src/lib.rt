@@ -1,40 +1,59 @@
 // One try to remove a knot, in its window: the m + 2 points and 2m + 3 knots round it.
 ghost use mathlib.Core.Path.{_≡_};
 ghost use Prim.Native.Nat.{_+_, _≤_};
-ghost use lib.ListN.{length};
+ghost use lib.ListN.{length, take};
 ghost use Rattle.window.specs.Window.{closed, Window, WindowOutcome};
 
-// The window's knots without the one in the middle.
-fn close(m: usize, knots: &[u16], out: &mut [u16])
-    requires { ⌜ m ≤ 3 ⌝ }
+// The window's knots without the one in the middle, and zeros behind them. Written out for each degree: short loops would take longer.
+fn close(m: usize, knots: &[u16]) -> [u16; 8]
+    requires { ⌜ (1 ≤ m) × (m ≤ 3) ⌝ }
     requires { ⌜ length (now knots) ≡ m + m + 3 ⌝ }
-    requires { ⌜ length (now out) ≡ m + m + 2 ⌝ }
-    ensures result { λ _. ⌜ now (out .exit) ≡ closed m (now (knots .entry)) ⌝ }
+    ensures result { λ r. ⌜ take (m + m + 2) r ≡ closed m (now (knots .entry)) ⌝ }
 {
-    let half = m + 1;
-    let behind = m + 2;
-    copying::copy_knots(&knots[..half], out);
-    copying::copy_knots(&knots[behind..], &mut out[half..]);
+    if m == 1 {
+        return [knots[0], knots[1], knots[3], knots[4], 0, 0, 0, 0];
+    }
+    if m == 2 {
+        return [
+            knots[0],
+            knots[1],
+            knots[2],
+            knots[4],
+            knots[5],
+            knots[6],
+            0,
+            0,
+        ];
+    }
+    [
+        knots[0],
+        knots[1],
+        knots[2],
+        knots[3],
+        knots[5],
+        knots[6],
+        knots[7],
+        knots[8],
+    ]
 }
 
-// The same try with lists for the fewer knots and the new points.
+// One try, given the fewer knots and lists for the new points.
 fn remove_through(
     m: usize,
     knots: &mut [u16],
     xs: &mut [i32],
     ys: &mut [i32],
-    ks: &mut [u16],
+    ks: &[u16],
     px: &mut [i32],
     py: &mut [i32],
 ) -> bool
     requires { ⌜ Window m (now knots) (now xs) (now ys) ⌝ }
-    requires { ⌜ length (now ks) ≡ m + m + 2 ⌝ }
+    requires { ⌜ now ks ≡ closed m (now knots) ⌝ }
     requires { ⌜ length (now px) ≡ m + 1 ⌝ }
     requires { ⌜ length (now py) ≡ m + 1 ⌝ }
     ensures answer { λ r. ⌜ WindowOutcome m (now (knots .entry)) (now (xs .entry)) (now (ys .entry)) (now (knots .exit)) (now (xs .exit)) (now (ys .exit)) r ⌝ }
 {
     let v = knots[m + 1];
-    close(m, knots, ks);
     if !removal::remove_axis(m, ks, xs, v, m, px) {
         return false;
     }
@@ -53,7 +72,7 @@ pub fn remove_middle(m: usize, knots: &mut [u16], xs: &mut [i32], ys: &mut [i32]
     requires { ⌜ Window m (now knots) (now xs) (now ys) ⌝ }
     ensures answer { λ r. ⌜ WindowOutcome m (now (knots .entry)) (now (xs .entry)) (now (ys .entry)) (now (knots .exit)) (now (xs .exit)) (now (ys .exit)) r ⌝ }
 {
-    let mut ks = [0u16; 8];
+    let ks = close(m, knots);
     let mut px = [0i32; 4];
     let mut py = [0i32; 4];
     let width = m + 1;
@@ -63,7 +82,7 @@ pub fn remove_middle(m: usize, knots: &mut [u16], xs: &mut [i32], ys: &mut [i32]
         knots,
         xs,
         ys,
-        &mut ks[..fewer],
+        &ks[..fewer],
         &mut px[..width],
         &mut py[..width],
     )

@@ -1,81 +1,105 @@
--- The half before the middle knot, then the half behind it.
-use mathlib.Core.Path.{_≡_, sym}
-use Prim.Native.Nat.{_+_}
+-- Each degree's knots, written out.
+use mathlib.Core.Path.{_≡_}
 use native.Mathlib.Omega.{arith}
-use lib.Seq.{length-take-le}
-use Rattle.window.proofs.WriteLaws.{closed-written}
+use Rattle.window.proofs.WriteLaws.{closed-linear, closed-quadratic, closed-cubic}
 use borrow.Author.Needs.{needs}
 use Rattle.window.proofs.close.Statement.{statement}
 use Rattle.window.proofs.close.Tie as tie
 
-add-half : tie.Need-add-half
-add-half c = search needs
+shared-slice-read-t5 : tie.Need-shared-slice-read-t5
+shared-slice-read-t5 c = search needs
 
-add-behind : tie.Need-add-behind
-add-behind c = search needs
+shared-slice-read-t7 : tie.Need-shared-slice-read-t7
+shared-slice-read-t7 c = search needs
 
-slice-aggregate-copy-knots : tie.Need-slice-aggregate-copy-knots
-slice-aggregate-copy-knots c =
-    let s = c .before .before .before in
-    sym (length-take-le (s .args .m + 1) (s .args .knots .now) (omega (arith, s .pre .1 .0)))
+shared-slice-read-t9 : tie.Need-shared-slice-read-t9
+shared-slice-read-t9 c = search needs
 
-copy-knots-requires : tie.Need-copy-knots-requires
-copy-knots-requires c κs = search needs
-
-mul-copy-knots : tie.Need-mul-copy-knots
-mul-copy-knots c = search needs
-
-sub-copy-knots : tie.Need-sub-copy-knots
-sub-copy-knots c = search needs
-
-part-copy-knots-start : tie.Need-part-copy-knots-start
-part-copy-knots-start c = search needs
-
-part-copy-knots-end : tie.Need-part-copy-knots-end
-part-copy-knots-end c = search needs
-
-mul-copy-knots-2 : tie.Need-mul-copy-knots-2
-mul-copy-knots-2 c = search needs
-
-sub-copy-knots-2 : tie.Need-sub-copy-knots-2
-sub-copy-knots-2 c = search needs
-
-part-copy-knots-start-2 : tie.Need-part-copy-knots-start-2
-part-copy-knots-start-2 c = search needs
-
-part-copy-knots-end-2 : tie.Need-part-copy-knots-end-2
-part-copy-knots-end-2 c = search needs
-
-copy-knots-requires-2 : tie.Need-copy-knots-requires-2
-copy-knots-requires-2 c κs = search needs
-
-same-length : tie.Need-same-length
-same-length c = search needs
+shared-slice-read-t11 : tie.Need-shared-slice-read-t11
+shared-slice-read-t11 c = search needs
 
 returns : tie.Need-returns
 returns c =
-    let s = c .before .before .before .before .before .before .before .before .before .before .before .before in
-    let a = s .args in
-    let first = c .before .before .before .before .before .before .before .copy-knots in
-    let second = c .before .before .copy-knots2 in
-    closed-written (a .m) (a .knots .now) (a .out .now) (first .last .1 .0) (second .last .1 .0) (s .pre .1 .0) (s .pre .1 .1) (first .ensures) (second .ensures)
+    let s = c .before .before .before .before .before in
+    let e = c .before .before .before .before .if1 .taken in
+    rw e (closed-linear (s .args .knots .now) (rw e at (s .pre .1)))
+
+shared-slice-read-t13 : tie.Need-shared-slice-read-t13
+shared-slice-read-t13 c = search needs
+
+shared-slice-read-t15 : tie.Need-shared-slice-read-t15
+shared-slice-read-t15 c = search needs
+
+shared-slice-read-t17 : tie.Need-shared-slice-read-t17
+shared-slice-read-t17 c = search needs
+
+shared-slice-read-t19 : tie.Need-shared-slice-read-t19
+shared-slice-read-t19 c = search needs
+
+shared-slice-read-t21 : tie.Need-shared-slice-read-t21
+shared-slice-read-t21 c = search needs
+
+shared-slice-read-t23 : tie.Need-shared-slice-read-t23
+shared-slice-read-t23 c = search needs
+
+returns-2 : tie.Need-returns-2
+returns-2 c =
+    let s = c .before .before .before .before .before .before .before .before in
+    let e = c .before .before .before .before .before .before .if2 .taken in
+    rw e (closed-quadratic (s .args .knots .now) (rw e at (s .pre .1)))
+
+shared-slice-read-t25 : tie.Need-shared-slice-read-t25
+shared-slice-read-t25 c = search needs
+
+shared-slice-read-t27 : tie.Need-shared-slice-read-t27
+shared-slice-read-t27 c = search needs
+
+shared-slice-read-t29 : tie.Need-shared-slice-read-t29
+shared-slice-read-t29 c = search needs
+
+shared-slice-read-t31 : tie.Need-shared-slice-read-t31
+shared-slice-read-t31 c = search needs
+
+shared-slice-read-t33 : tie.Need-shared-slice-read-t33
+shared-slice-read-t33 c = search needs
+
+shared-slice-read-t35 : tie.Need-shared-slice-read-t35
+shared-slice-read-t35 c = search needs
+
+shared-slice-read-t37 : tie.Need-shared-slice-read-t37
+shared-slice-read-t37 c = search needs
+
+shared-slice-read-t39 : tie.Need-shared-slice-read-t39
+shared-slice-read-t39 c = search needs
+
+returns-3 : tie.Need-returns-3
+returns-3 c =
+    let s = c .before .before .before .before .before .before .before .before .before .before in
+    let e : s .args .m ≡ 3 = omega (arith, s .pre .0 .0, s .pre .0 .1, c .before .before .before .before .before .before .before .before .before .if1 .left, c .before .before .before .before .before .before .before .before .if2 .left) in
+    rw e (closed-cubic (s .args .knots .now) (rw e at (s .pre .1)))
 
 pub close-spec : {M : Type 1} → statement M
 close-spec =
     tie.close
     (tie.spec
-    add-half
-    add-behind
-    slice-aggregate-copy-knots
-    copy-knots-requires
-    mul-copy-knots
-    sub-copy-knots
-    part-copy-knots-start
-    part-copy-knots-end
-    mul-copy-knots-2
-    sub-copy-knots-2
-    part-copy-knots-start-2
-    part-copy-knots-end-2
-    copy-knots-requires-2
-    same-length
-    returns)
+    shared-slice-read-t5
+    shared-slice-read-t7
+    shared-slice-read-t9
+    shared-slice-read-t11
+    returns
+    shared-slice-read-t13
+    shared-slice-read-t15
+    shared-slice-read-t17
+    shared-slice-read-t19
+    shared-slice-read-t21
+    shared-slice-read-t23
+    returns-2
+    shared-slice-read-t25
+    shared-slice-read-t27
+    shared-slice-read-t29
+    shared-slice-read-t31
+    shared-slice-read-t33
+    shared-slice-read-t35
+    shared-slice-read-t37
+    shared-slice-read-t39
+    returns-3)

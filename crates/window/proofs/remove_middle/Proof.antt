@@ -1,13 +1,18 @@
--- Arrays of the largest degree's size, lent as far as this degree needs them.
+-- The fewer knots, and arrays of the largest degree's size, lent as far as this degree needs them.
 use mathlib.Core.Path.{_≡_, sym, _∙_}
-use Prim.Native.Nat.{ℕ, _+_}
+use Prim.Native.Nat.{_+_}
 use native.Mathlib.Omega.{arith}
-use lib.ListN.{replicate}
+use lib.ListN.{replicate, take}
 use lib.IntN.{pos}
 use lib.Seq.{length-take-le}
+use Rattle.window.specs.Window.{closed}
+use Rattle.window.proofs.ClosedLaws.{closed-length}
 use borrow.Author.Needs.{needs}
 use Rattle.window.proofs.remove_middle.Statement.{statement}
 use Rattle.window.proofs.remove_middle.Tie as tie
+
+close-requires : tie.Need-close-requires
+close-requires c κs = search needs
 
 add-width : tie.Need-add-width
 add-width c = search needs
@@ -18,21 +23,24 @@ add-fewer c = search needs
 add-fewer-2 : tie.Need-add-fewer-2
 add-fewer-2 c = search needs
 
-array-borrow-prefix-ks : tie.Need-array-borrow-prefix-ks
-array-borrow-prefix-ks c = search needs
+array-share-prefix-ks : tie.Need-array-share-prefix-ks
+array-share-prefix-ks c = search needs
 
 slice-aggregate-remove-through : tie.Need-slice-aggregate-remove-through
 slice-aggregate-remove-through c =
-    let s = c .before .before .before .before .before in
+    let s = c .before .before .before .before .before .before .before in
     let m = s .args .m in
-    sym (length-take-le (m + (m + 1) + 1) (replicate 8 0) (omega (arith, s .pre .most)))
+    let k = c .before .before .before .before .close in
+    let count : m + (m + 1) + 1 ≡ m + m + 2 = omega arith in
+    let fewer : take (m + (m + 1) + 1) (k .result) ≡ closed m (s .args .knots .now) = rw count (k .ensures) in
+    rw fewer (count ∙ sym (closed-length m (s .args .knots .now) (s .pre .knots)))
 
 array-borrow-prefix-px : tie.Need-array-borrow-prefix-px
 array-borrow-prefix-px c = search needs
 
 slice-aggregate-remove-through-2 : tie.Need-slice-aggregate-remove-through-2
 slice-aggregate-remove-through-2 c =
-    let s = c .before .before .before .before .before .before in
+    let s = c .before .before .before .before .before .before .before .before in
     sym (length-take-le (s .args .m + 1) (replicate 4 (pos 0)) (omega (arith, s .pre .most)))
 
 array-borrow-prefix-py : tie.Need-array-borrow-prefix-py
@@ -40,16 +48,18 @@ array-borrow-prefix-py c = search needs
 
 slice-aggregate-remove-through-3 : tie.Need-slice-aggregate-remove-through-3
 slice-aggregate-remove-through-3 c =
-    let s = c .before .before .before .before .before .before .before in
+    let s = c .before .before .before .before .before .before .before .before .before in
     sym (length-take-le (s .args .m + 1) (replicate 4 (pos 0)) (omega (arith, s .pre .most)))
 
 remove-through-requires : tie.Need-remove-through-requires
 remove-through-requires c κs =
-    let s = c .before .before .before .before .before .before .before in
+    let s = c .before .before .before .before .before .before .before .before .before in
     let m = s .args .m in
-    let ks = length-take-le {A = ℕ} (m + (m + 1) + 1) (replicate 8 0) (omega (arith, s .pre .most)) in
+    let k = c .before .before .before .before .before .before .close in
+    let count : m + (m + 1) + 1 ≡ m + m + 2 = omega arith in
+    let fewer : take (m + (m + 1) + 1) (k .result) ≡ closed m (s .args .knots .now) = rw count (k .ensures) in
     let width = length-take-le (m + 1) (replicate 4 (pos 0)) (omega (arith, s .pre .most)) in
-    (s .pre, (ks ∙ (omega arith), (width, width)))
+    (s .pre, (fewer, (width, width)))
 
 same-length : tie.Need-same-length
 same-length c = search needs
@@ -67,10 +77,11 @@ pub remove-middle-spec : {M : Type 1} → statement M
 remove-middle-spec =
     tie.close
     (tie.spec
+    close-requires
     add-width
     add-fewer
     add-fewer-2
-    array-borrow-prefix-ks
+    array-share-prefix-ks
     slice-aggregate-remove-through
     array-borrow-prefix-px
     slice-aggregate-remove-through-2

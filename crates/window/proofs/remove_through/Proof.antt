@@ -18,16 +18,12 @@ mul-v c = search needs
 slice-read-v : tie.Need-slice-read-v
 slice-read-v c = search needs
 
-close-requires : tie.Need-close-requires
-close-requires c κs = search needs
-
 remove-axis-requires : tie.Need-remove-axis-requires
 remove-axis-requires c κs =
-    let s = c .before .before .before .before .before .before .before .before .before .before .before in
+    let s = c .before .before .before .before .before in
     let a = s .args in
     let w = s .pre .0 in
-    let k = c .before .before .before .before .before .close in
-    rw (k .ensures) (closed-reduced (a .m) (a .knots .now) (a .xs .now) (a .ys .now) w (a .xs .now) (w .across), (sym (closed-span (a .m) (a .knots .now) (a .xs .now) (a .ys .now) w), (omega (arith, s .pre .1 .1 .0, w .across), w .rangedXs)))
+    rw (s .pre .1 .0) (closed-reduced (a .m) (a .knots .now) (a .xs .now) (a .ys .now) w (a .xs .now) (w .across), (sym (closed-span (a .m) (a .knots .now) (a .xs .now) (a .ys .now) w), (omega (arith, s .pre .1 .1 .0, w .across), w .rangedXs)))
 
 same-length : tie.Need-same-length
 same-length c = search needs
@@ -35,33 +31,47 @@ same-length c = search needs
 same-length-2 : tie.Need-same-length-2
 same-length-2 c = search needs
 
+returns : tie.Need-returns
+returns c =
+    let s = c .before .before .before .before .before .before .before .before in
+    let a = s .args in
+    let x = c .before .before .remove-axis in
+    stuck-outcome (a .m) (a .knots .now) (a .xs .now) (a .ys .now) (λ px py h _. x .ensures .none (not-true (x .result) (c .if1 .taken)) px (rw (s .pre .1 .0) h))
+
+remove-axis-requires-2 : tie.Need-remove-axis-requires-2
+remove-axis-requires-2 c κs =
+    let s = c .before .before .before .before .before .before .before .before .before .before in
+    let a = s .args in
+    let w = s .pre .0 in
+    rw (s .pre .1 .0) (closed-reduced (a .m) (a .knots .now) (a .xs .now) (a .ys .now) w (a .ys .now) (w .up), (sym (closed-span (a .m) (a .knots .now) (a .xs .now) (a .ys .now) w), (omega (arith, s .pre .1 .1 .1, w .up), w .rangedYs)))
+
 same-length-3 : tie.Need-same-length-3
 same-length-3 c = search needs
 
 same-length-4 : tie.Need-same-length-4
 same-length-4 c = search needs
 
-returns : tie.Need-returns
-returns c =
-    let s = c .before .before .before .before .before .before .before .before .before .before .before .before .before .before in
-    let a = s .args in
-    let k = c .before .before .before .before .before .before .before .before .close in
-    let x = c .before .before .remove-axis in
-    stuck-outcome (a .m) (a .knots .now) (a .xs .now) (a .ys .now) (λ px py h _. x .ensures .none (not-true (x .result) (c .if1 .taken)) px (rw (k .ensures) h))
-
-remove-axis-requires-2 : tie.Need-remove-axis-requires-2
-remove-axis-requires-2 c κs =
-    let s = c .before .before .before .before .before .before .before .before .before .before .before .before .before .before .before .before .before in
-    let a = s .args in
-    let w = s .pre .0 in
-    let k = c .before .before .before .before .before .before .before .before .before .before .before .close in
-    rw (k .ensures) (closed-reduced (a .m) (a .knots .now) (a .xs .now) (a .ys .now) w (a .ys .now) (w .up), (sym (closed-span (a .m) (a .knots .now) (a .xs .now) (a .ys .now) w), (omega (arith, s .pre .1 .1 .1, w .up), w .rangedYs)))
-
 same-length-5 : tie.Need-same-length-5
 same-length-5 c = search needs
 
 same-length-6 : tie.Need-same-length-6
 same-length-6 c = search needs
+
+returns-2 : tie.Need-returns-2
+returns-2 c =
+    let s = c .before .before .before .before .before .before .before .before .before .before .before .before .before in
+    let a = s .args in
+    let y = c .before .before .remove-axis2 in
+    stuck-outcome (a .m) (a .knots .now) (a .xs .now) (a .ys .now) (λ px py _ h. y .ensures .none (not-true (y .result) (c .if2 .taken)) py (rw (s .pre .1 .0) h))
+
+copy-knots-requires : tie.Need-copy-knots-requires
+copy-knots-requires c κs = search needs
+
+copy-coordinates-requires : tie.Need-copy-coordinates-requires
+copy-coordinates-requires c κs = search needs
+
+copy-coordinates-requires-2 : tie.Need-copy-coordinates-requires-2
+copy-coordinates-requires-2 c κs = search needs
 
 same-length-7 : tie.Need-same-length-7
 same-length-7 c = search needs
@@ -75,57 +85,26 @@ same-length-9 c = search needs
 same-length-10 : tie.Need-same-length-10
 same-length-10 c = search needs
 
-returns-2 : tie.Need-returns-2
-returns-2 c =
-    let s = c .before .before .before .before .before .before .before .before .before .before .before .before .before .before .before .before .before .before .before .before in
-    let a = s .args in
-    let k = c .before .before .before .before .before .before .before .before .before .before .before .before .before .before .close in
-    let y = c .before .before .remove-axis2 in
-    stuck-outcome (a .m) (a .knots .now) (a .xs .now) (a .ys .now) (λ px py _ h. y .ensures .none (not-true (y .result) (c .if2 .taken)) py (rw (k .ensures) h))
-
-copy-knots-requires : tie.Need-copy-knots-requires
-copy-knots-requires c κs = search needs
-
-copy-coordinates-requires : tie.Need-copy-coordinates-requires
-copy-coordinates-requires c κs = search needs
-
-copy-coordinates-requires-2 : tie.Need-copy-coordinates-requires-2
-copy-coordinates-requires-2 c κs = search needs
-
 same-length-11 : tie.Need-same-length-11
 same-length-11 c = search needs
 
-same-length-12 : tie.Need-same-length-12
-same-length-12 c = search needs
-
-same-length-13 : tie.Need-same-length-13
-same-length-13 c = search needs
-
-same-length-14 : tie.Need-same-length-14
-same-length-14 c = search needs
-
-same-length-15 : tie.Need-same-length-15
-same-length-15 c = search needs
-
-same-length-16 : tie.Need-same-length-16
-same-length-16 c = search needs
-
 returns-3 : tie.Need-returns-3
 returns-3 c =
-    let s = c .before .before .before .before .before .before .before .before .before .before .before .before .before .before .before .before .before .before .before .before .before .before .before .before .before .before .before .before .before .before .before .before .before in
+    let s = c .before .before .before .before .before .before .before .before .before .before .before .before .before .before .before .before .before .before .before .before .before .before .before .before .before in
     let a = s .args in
     let w = s .pre .0 in
-    let k = c .before .before .before .before .before .before .before .before .before .before .before .before .before .before .before .before .before .before .before .before .before .before .before .before .before .before .before .close in
-    let x = c .before .before .before .before .before .before .before .before .before .before .before .before .before .before .before .before .before .before .before .before .before .remove-axis in
-    let y = c .before .before .before .before .before .before .before .before .before .before .before .before .before .before .before .remove-axis2 in
-    let onX = rw (k .ensures) at (x .ensures .found (not-false (x .result) (c .before .before .before .before .before .before .before .before .before .before .before .before .before .before .before .before .before .before .before .if1 .left))) in
-    let onY = rw (k .ensures) at (y .ensures .found (not-false (y .result) (c .before .before .before .before .before .before .before .before .before .before .before .before .before .if2 .left))) in
-    let ck = rw (k .ensures) at (c .before .before .before .before .before .before .before .before .before .before .copy-knots .ensures) in
-    closed-outcome (a .m) (a .knots .now) (a .xs .now) (a .ys .now) (x .last .1 .1 .1 .1 .1 .0) (y .last .1 .1 .1 .1 .1 .0) onX onY
-    (c .before .before .before .before .before .before .before .before .before .before .copy-knots .last .1 .0) (c .before .before .before .before .before .copy-coordinates .last .1 .0) (c .before .copy-coordinates2 .last .1 .0)
-    (copied-over (closed (a .m) (a .knots .now)) (a .knots .now) (c .before .before .before .before .before .before .before .before .before .before .copy-knots .last .1 .0) (omega (arith, closed-length (a .m) (a .knots .now) (w .knots), w .knots)) ck)
-    (copied-over (x .last .1 .1 .1 .1 .1 .0) (a .xs .now) (c .before .before .before .before .before .copy-coordinates .last .1 .0) (omega (arith, onX .count)) (c .before .before .before .before .before .copy-coordinates .ensures))
-    (copied-over (y .last .1 .1 .1 .1 .1 .0) (a .ys .now) (c .before .copy-coordinates2 .last .1 .0) (omega (arith, onY .count)) (c .before .copy-coordinates2 .ensures))
+    let x = c .before .before .before .before .before .before .before .before .before .before .before .before .before .before .before .before .before .before .before .remove-axis in
+    let y = c .before .before .before .before .before .before .before .before .before .before .before .before .before .before .remove-axis2 in
+    let k = c .before .before .before .before .before .before .before .before .before .before .copy-knots in
+    let cx = c .before .before .before .before .before .copy-coordinates in
+    let cy = c .before .copy-coordinates2 in
+    let onX = rw (s .pre .1 .0) at (x .ensures .found (not-false (x .result) (c .before .before .before .before .before .before .before .before .before .before .before .before .before .before .before .before .before .if1 .left))) in
+    let onY = rw (s .pre .1 .0) at (y .ensures .found (not-false (y .result) (c .before .before .before .before .before .before .before .before .before .before .before .before .if2 .left))) in
+    let ck = rw (s .pre .1 .0) at (k .ensures) in
+    closed-outcome (a .m) (a .knots .now) (a .xs .now) (a .ys .now) (x .last .1 .1 .1 .1 .1 .0) (y .last .1 .1 .1 .1 .1 .0) onX onY (k .last .1 .0) (cx .last .1 .0) (cy .last .1 .0)
+    (copied-over (closed (a .m) (a .knots .now)) (a .knots .now) (k .last .1 .0) (omega (arith, closed-length (a .m) (a .knots .now) (w .knots), w .knots)) ck)
+    (copied-over (x .last .1 .1 .1 .1 .1 .0) (a .xs .now) (cx .last .1 .0) (omega (arith, onX .count)) (cx .ensures))
+    (copied-over (y .last .1 .1 .1 .1 .1 .0) (a .ys .now) (cy .last .1 .0) (omega (arith, onY .count)) (cy .ensures))
 
 pub remove-through-spec : {M : Type 1} → statement M
 remove-through-spec =
@@ -134,28 +113,22 @@ remove-through-spec =
     add-v
     mul-v
     slice-read-v
-    close-requires
     remove-axis-requires
     same-length
     same-length-2
-    same-length-3
-    same-length-4
     returns
     remove-axis-requires-2
+    same-length-3
+    same-length-4
     same-length-5
     same-length-6
-    same-length-7
-    same-length-8
-    same-length-9
-    same-length-10
     returns-2
     copy-knots-requires
     copy-coordinates-requires
     copy-coordinates-requires-2
+    same-length-7
+    same-length-8
+    same-length-9
+    same-length-10
     same-length-11
-    same-length-12
-    same-length-13
-    same-length-14
-    same-length-15
-    same-length-16
     returns-3)
