@@ -28,10 +28,15 @@ pub fn compact(
         return CompactAnswer::Refused(number);
     }
     let m = degree as usize;
-    if xs.len() <= through::SHORT {
+    let points = xs.len();
+    if points == m + 1 {
+        // no inner knot: nothing can go
+        return handing::hand_over(m, points, points, knots, xs, ys, out_knots, out_xs, out_ys);
+    }
+    if points <= through::SHORT {
         return through::compact_short(m, knots, xs, ys, out_knots, out_xs, out_ys);
     }
-    if xs.len() <= through::MIDDLE {
+    if points <= through::MIDDLE {
         return through::compact_middle(m, knots, xs, ys, out_knots, out_xs, out_ys);
     }
     through::compact_longest(m, knots, xs, ys, out_knots, out_xs, out_ys)

@@ -6,7 +6,7 @@ use Prim.Native.Nat.{ℕ, suc, _+_, _-_, _≤_, _<_}
 use native.Mathlib.Omega.{arith}
 use lib.IntN.{ℤ, pos}
 use lib.ListN.{length, getD, take, drop, set, length-set, length-drop, drop-of-length-le, take-append-drop}
-use lib.Seq.{take-suc-set, drop-cons, getD-set-other, length-take-le}
+use lib.Seq.{take-suc-set, drop-cons, getD-set-other, length-take-le, take-all, take-length}
 use Rattle.lent.specs.Lent.{over}
 use Rattle.grid.specs.Rows.{rangeOk, allOnGrid}
 use Rattle.grid.proofs.OrderLaws.{both}
@@ -302,3 +302,22 @@ module _ (m : ℕ) (c : Curve) (passing : CurvePasses m c) (ks₀ : List ℕ) (x
               (λ behind.
               omega (arith, at .2, rises-of-test (take (left + m + 1) ks) (passes-tests m (take (left + m + 1) ks) (take left xs) (take left ys) passes .order) left (at .0) behind (at .1))))));
         }
+
+-- a curve of m + 1 points has no inner knot: a pass leaves it as it is
+pub nothing-inner : (m : ℕ) (c : Curve) → CurvePasses m c → length (c .xs) ≡ m + 1 → PassOutcome m (length (c .xs)) c (c .knots) (c .xs) (c .ys) (length (c .xs))
+nothing-inner m c passing few =
+    let s = sizes-of-passes m (c .knots) (c .xs) (c .ys) passing in
+    let rises = rises-of-test (c .knots) (passes-tests m (c .knots) (c .xs) (c .ys) passing .order) in
+    let whole : frontCurve m (length (c .xs)) (c .knots) (c .xs) (c .ys) ≡ c =
+    curve-is c (take (length (c .xs) + m + 1) (c .knots)) (take (length (c .xs)) (c .xs)) (take (length (c .xs)) (c .ys))
+    (take-all (length (c .xs) + m + 1) (c .knots) (omega (arith, s .knots))) (take-length (c .xs)) (take-all (length (c .xs)) (c .ys) (omega (arith, s .as-many))) in
+    record {
+      fewer = omega arith;
+      passes = record { passes = subst (λ (x : Curve). CurvePasses m x) (sym whole) passing };
+      pass = subst (λ (x : Curve). Pass m (getD (c .knots) m 0) c x) (sym whole)
+          (done (λ v i.
+          let at = stands-at v (c .knots) (i .present) in
+          either (at .0) (length (c .xs))
+          (λ before. omega (arith, at .2, i .left, rises (at .0) m (omega arith) (omega (arith, s .knots))))
+          (λ behind. omega (arith, at .2, i .right, rises (length (c .xs)) (at .0) behind (at .1)))));
+    }
