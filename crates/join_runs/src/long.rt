@@ -1,5 +1,6 @@
 // As many spline points as may be, and one more: points on a line, every third grid step.
-use crate::lines;
+use crate::joined;
+use run_lines::answer;
 
 // 0, 3, 6, .. for the parameters.
 fn ramp(params: &mut [u16]) {
@@ -19,6 +20,27 @@ fn ramp_points(ps: &mut [i32]) {
     }
 }
 
+// How many entries hold their own index.
+fn counted(zs: &[i32]) -> u64 {
+    let mut n: u64 = 0;
+    let mut k = 0;
+    while k < zs.len() {
+        if signed::wide(zs[k]) == (k as i64) {
+            n += 1;
+        }
+        k += 1;
+    }
+    n
+}
+
+// How many coordinates hold their own index, and what the curve check says.
+fn print(ts: &[u16], xs: &[i32], ys: &[i32]) {
+    answer(b", x in place ", b"", counted(xs));
+    answer(b", y in place ", b"", counted(ys));
+    answer(b", check ", b"", grid::check(3, ts, xs, ys) as u64);
+    run_lines::text(b"\n");
+}
+
 fn run(
     name: &[u8],
     params: &mut [u16],
@@ -30,7 +52,9 @@ fn run(
 ) {
     ramp(params);
     ramp_points(ps);
-    lines::join_long(name, params, ps, ts, knots, xs, ys);
+    let a = joining::join_through_points(params, ps, ps, ts, ts, knots, xs, ys);
+    joined::print(name, a);
+    print(knots, xs, ys);
 }
 
 pub(crate) fn points_342() {

@@ -13,8 +13,8 @@ use borrow.Author.Tests.{ltb-true}
 use Rattle.signed.proofs.BoundLaws.{natAbs-difference}
 use Rattle.signed.proofs.FitLaws.{fits64-of-size, size-of-fits32, fits-wider}
 use borrow.Author.Needs.{needs}
-use Rattle.join_runs.proofs.lines.whole.Statement.{statement}
-use Rattle.join_runs.proofs.lines.whole.Tie as tie
+use Rattle.run_lines.proofs.printing.whole.Statement.{statement}
+use Rattle.run_lines.proofs.printing.whole.Tie as tie
 
 negated-fits : (z : ℤ) → SFits w32 z → SFits w64 (pos 0 -ℤ z)
 negated-fits z h = fits64-of-size (pos 0 -ℤ z) (omega (arith, natAbs-difference (pos 0) z, size-of-fits32 z h))

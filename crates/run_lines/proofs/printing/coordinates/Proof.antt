@@ -1,16 +1,19 @@
 -- The loop goes through the list and ends.
 use borrow.Author.Needs.{needs}
-use Prim.Native.Nat.{_≤_, _-_}
 use native.Mathlib.Omega.{arith}
+use Prim.Native.Nat.{_≤_, _-_}
 use lib.ListN.{length}
-use Rattle.join_runs.proofs.lines.coordinates.Statement.{statement}
-use Rattle.join_runs.proofs.lines.coordinates.Tie as tie
+use Rattle.run_lines.proofs.printing.coordinates.Statement.{statement}
+use Rattle.run_lines.proofs.printing.coordinates.Tie as tie
 
 abbrev Inv-loop : tie.InvT-loop
-Inv-loop zs k₀ t3 k = k ≤ length zs
+Inv-loop name zs k₀ t4 k = k ≤ length zs
 
 abbrev μ-loop : tie.MeasureT-loop
-μ-loop zs k₀ t3 k = length zs - k
+μ-loop name zs k₀ t4 k = length zs - k
+
+text-requires : tie.Need-text-requires Inv-loop μ-loop
+text-requires c κs = search needs
 
 loop-holds : tie.Need-loop-holds Inv-loop μ-loop
 loop-holds c = omega arith
@@ -18,14 +21,14 @@ loop-holds c = omega arith
 slice-aggregate-text : tie.Need-slice-aggregate-text Inv-loop μ-loop
 slice-aggregate-text c = search needs
 
-text-requires : tie.Need-text-requires Inv-loop μ-loop
-text-requires c κs = search needs
+text-requires-2 : tie.Need-text-requires-2 Inv-loop μ-loop
+text-requires-2 c κs = search needs
 
 mul-whole : tie.Need-mul-whole Inv-loop μ-loop
 mul-whole c = omega arith
 
 shared-slice-copy-out-whole : tie.Need-shared-slice-copy-out-whole Inv-loop μ-loop
-shared-slice-copy-out-whole c = omega arith
+shared-slice-copy-out-whole c = search needs
 
 whole-requires : tie.Need-whole-requires Inv-loop μ-loop
 whole-requires c κs = search needs
@@ -48,9 +51,10 @@ coordinates-spec =
     (tie.spec
     Inv-loop
     μ-loop
+    text-requires
     loop-holds
     slice-aggregate-text
-    text-requires
+    text-requires-2
     mul-whole
     shared-slice-copy-out-whole
     whole-requires

@@ -4,8 +4,8 @@ use borrow.Author.Needs.{needs}
 use Prim.Native.Nat.{_≤_, _-_}
 use native.Mathlib.Omega.{arith}
 use lib.ListN.{length}
-use Rattle.join_runs.proofs.lines.counted.Statement.{statement}
-use Rattle.join_runs.proofs.lines.counted.Tie as tie
+use Rattle.join_runs.proofs.long.counted.Statement.{statement}
+use Rattle.join_runs.proofs.long.counted.Tie as tie
 
 abbrev Inv-loop : tie.InvT-loop
 Inv-loop zs n₀ k₀ n k = (k ≤ length zs) × (n ≤ k)
