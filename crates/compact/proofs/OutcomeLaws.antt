@@ -1,42 +1,26 @@
 -- How the outcomes of a compaction come about; and two outcomes of one call are the same.
-use mathlib.Core.Bool.{Bool, true, false, true≢false, _&&_}
+use mathlib.Core.Bool.{Bool, true, false, true≢false, cond}
 use mathlib.Core.List.{List}
-use mathlib.Core.Path.{_≡_, refl, sym, ap, _∙_, subst}
-use Prim.Native.Nat.{ℕ, _+_, _-_, _≤_, _<_}
+use mathlib.Core.Path.{_≡_, refl, sym, ap, _∙_}
+use Prim.Native.Nat.{ℕ, _+_, _-_, _≤_}
 use native.Mathlib.Omega.{arith}
-use lib.Dec.{leb}
 use lib.IntN.{ℤ}
 use lib.ListN.{length, take}
-use lib.Seq.{take-all, length-take-le}
-use borrow.Author.Tests.{le-leb, lt-leb}
+use lib.Seq.{length-take-le}
 use Rattle.grid.specs.Check.{checkNumber, Passes}
 use Rattle.grid.proofs.SizeLaws.{sizes-of-passes}
 use Rattle.lent.specs.Lent.{over}
 use Rattle.compaction.specs.Compaction.{Curve, CompactsTo}
-use Rattle.compaction.specs.Work.{frontCurve, Holding, FrontPasses, PassOutcome}
-use Rattle.compaction.proofs.FrontLaws.{copied-front, curve-is}
+use Rattle.compaction.specs.Work.{frontCurve, Holding, PassOutcome}
 use Rattle.compaction.proofs.PassLaws.{pass-unique}
 use Rattle.compact.specs.declared.CompactAnswer.{CompactAnswer}
 use Rattle.compact.specs.declared.CompactAnswer.the-variants.{Compacted, Refused}
-use Rattle.compact.specs.Outcome.{resultRoomOk, Kept, CompactOutcome, refused, noRoom, compacted, HandOver}
+use Rattle.handing.specs.Handing.{handed, Kept}
+use Rattle.compact.specs.Outcome.{resultRoomOk, CompactOutcome, refused, noRoom, compacted, HandOver}
 
 -- lists that nothing was written to
 pub nothing-written : (ks : List ℕ) (xs ys : List ℤ) → Kept ks xs ys ks xs ys
 nothing-written ks xs ys = record { sameKnots = refl; sameXs = refl; sameYs = refl }
-
--- the curve at the front of lists that it was copied to
-pub loaded : (m : ℕ) (c : Curve) → Passes m (c .knots) (c .xs) (c .ys) → (ks ka : List ℕ) (xs xa ys ya : List ℤ) → Holding m (length (c .xs)) ks xs ys
-    → ka ≡ over (take (length ks) (c .knots)) ks → xa ≡ over (take (length xs) (c .xs)) xs → ya ≡ over (take (length ys) (c .ys)) ys
-    → frontCurve m (length (c .xs)) ka xa ya ≡ c
-loaded m c p ks ka xs xa ys ya h a b d =
-    let s = sizes-of-passes m (c .knots) (c .xs) (c .ys) p in
-    curve-is c (take (length (c .xs) + m + 1) ka) (take (length (c .xs)) xa) (take (length (c .xs)) ya)
-    (copied-front (c .knots) ks ka (length (c .xs) + m + 1) (s .knots) (h .roomKnots) a)
-    (copied-front (c .xs) xs xa (length (c .xs)) refl (h .roomXs) b)
-    (copied-front (c .ys) ys ya (length (c .xs)) (s .as-many) (h .roomYs) d)
-
-pub loaded-passes : (m n : ℕ) (c : Curve) → Passes m (c .knots) (c .xs) (c .ys) → (ka : List ℕ) (xa ya : List ℤ) → frontCurve m n ka xa ya ≡ c → FrontPasses m n ka xa ya
-loaded-passes m n c p ka xa ya e = record { passes = subst (λ (d : Curve). Passes m (d .knots) (d .xs) (d .ys)) (sym e) p }
 
 -- lists for so many points hold a curve that has no more
 pub held : (points m : ℕ) (c : Curve) → Passes m (c .knots) (c .xs) (c .ys) → length (c .xs) ≤ points
@@ -45,51 +29,14 @@ held points m c p within ks xs ys a b d =
     let s = sizes-of-passes m (c .knots) (c .xs) (c .ys) p in
     record { roomKnots = omega (arith, s .degree-most); roomXs = omega arith; roomYs = omega arith }
 
--- handing over, list after list
-module _ (m left n : ℕ) (ks : List ℕ) (xs ys : List ℤ) (h : Holding m left ks xs ys) (kb : List ℕ) (xb yb : List ℤ) where
-  count-knots : length (take (left + m + 1) ks) ≡ left + m + 1
-  count-knots = length-take-le (left + m + 1) ks (h .roomKnots)
-
-  count-xs : length (take left xs) ≡ left
-  count-xs = length-take-le left xs (h .roomXs)
-
-  count-ys : length (take left ys) ≡ left
-  count-ys = length-take-le left ys (h .roomYs)
-
-  hand-short : resultRoomOk (frontCurve m left ks xs ys) (length kb) (length xb) (length yb) ≡ false
-      → HandOver (frontCurve m left ks xs ys) (n - left) kb xb yb (Refused 15) kb xb yb
-  hand-short e =
-      record { short = λ f. (refl, nothing-written kb xb yb); enough = λ f. absurd (true≢false (sym f ∙ e)) }
-
-  pub short-knots : length kb < left + m + 1 → HandOver (frontCurve m left ks xs ys) (n - left) kb xb yb (Refused 15) kb xb yb
-  unfolding resultRoomOk
-  short-knots k = hand-short (rw (count-knots, lt-leb (left + m + 1) (length kb) k))
-
-  pub short-xs : left + m + 1 ≤ length kb → length xb < left → HandOver (frontCurve m left ks xs ys) (n - left) kb xb yb (Refused 15) kb xb yb
-  unfolding resultRoomOk
-  short-xs k x = hand-short (rw (count-knots, le-leb (left + m + 1) (length kb) k, count-xs, lt-leb left (length xb) x))
-
-  pub short-ys : left + m + 1 ≤ length kb → left ≤ length xb → length yb < left → HandOver (frontCurve m left ks xs ys) (n - left) kb xb yb (Refused 15) kb xb yb
-  unfolding resultRoomOk
-  short-ys k x y = hand-short (rw (count-knots, le-leb (left + m + 1) (length kb) k, count-xs, le-leb left (length xb) x, count-ys, lt-leb left (length yb) y))
-
-  enough-room : left + m + 1 ≤ length kb → left ≤ length xb → left ≤ length yb → resultRoomOk (frontCurve m left ks xs ys) (length kb) (length xb) (length yb) ≡ true
-  unfolding resultRoomOk
-  enough-room k x y = rw (count-knots, le-leb (left + m + 1) (length kb) k, count-xs, le-leb left (length xb) x, count-ys, le-leb left (length yb) y)
-
-  pub hand-whole : left + m + 1 ≤ length kb → left ≤ length xb → left ≤ length yb → (ka : List ℕ) (xa ya : List ℤ)
-      → ka ≡ over (take (length kb) (take (left + m + 1) ks)) kb → xa ≡ over (take (length xb) (take left xs)) xb → ya ≡ over (take (length yb) (take left ys)) yb
-      → HandOver (frontCurve m left ks xs ys) (n - left) kb xb yb (Compacted (n - left)) ka xa ya
-  hand-whole k x y ka xa ya a b c =
-      record {
-        short = λ f. absurd (true≢false (sym (enough-room k x y) ∙ f));
-        enough = λ f. (
-          refl,
-          a ∙ rw (take-all (length kb) (take (left + m + 1) ks) (rw count-knots k)),
-          b ∙ rw (take-all (length xb) (take left xs) (rw count-xs x)),
-          c ∙ rw (take-all (length yb) (take left ys) (rw count-ys y)),
-        );
-      }
+-- handing over: all three lists, or 15
+pub hand-outcome : (d : Curve) (count : ℕ) (kb : List ℕ) (xb yb : List ℤ) (r : Bool) (ka : List ℕ) (xa ya : List ℤ)
+    → r ≡ resultRoomOk d (length kb) (length xb) (length yb) → ka ≡ handed r (d .knots) kb → xa ≡ handed r (d .xs) xb → ya ≡ handed r (d .ys) yb
+    → HandOver d count kb xb yb (cond r (Compacted count) (Refused 15)) ka xa ya
+hand-outcome d count kb xb yb true ka xa ya e a b c =
+    record { short = λ f. absurd (true≢false (e ∙ f)); enough = λ f. (refl, a, b, c) }
+hand-outcome d count kb xb yb false ka xa ya e a b c =
+    record { short = λ f. (refl, record { sameKnots = a; sameXs = b; sameYs = c }); enough = λ f. absurd (true≢false (sym (e ∙ f))) }
 
 -- a pass and its handing over are an outcome of the call
 pub outcome-of-pass : (m : ℕ) (c : Curve) → Passes m (c .knots) (c .xs) (c .ys) → (ks : List ℕ) (xs ys : List ℤ) (left : ℕ)

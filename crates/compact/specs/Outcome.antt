@@ -1,28 +1,22 @@
 -- What compacting a curve answers and leaves in the three lent lists, case by case (headings "Inserting and removing a knot" and
 -- "Numbers of refusal"). A pass has one result, so no two outcomes differ.
-use mathlib.Core.Bool.{Bool, true, false, _&&_}
+use mathlib.Core.Bool.{Bool, true, false}
 use mathlib.Core.List.{List}
 use mathlib.Core.Path.{_≡_}
 use Prim.Native.Nat.{ℕ, _-_}
-use lib.Dec.{leb}
 use lib.IntN.{ℤ}
 use lib.ListN.{length}
 use Rattle.refusal.specs.Numbers.{roomRefused}
 use Rattle.grid.specs.Check.{checkNumber, Passes}
 use Rattle.lent.specs.Lent.{over}
+use Rattle.handing.specs.Handing.{roomFor, Kept}
 use Rattle.compaction.specs.Compaction.{Curve, CompactsTo}
 use Rattle.compact.specs.declared.CompactAnswer.{CompactAnswer}
 use Rattle.compact.specs.declared.CompactAnswer.the-variants.{Compacted, Refused}
 
 -- row 15: lent lists of these lengths hold the result, however long the old curve was
-unfoldable pub resultRoomOk : Curve → ℕ → ℕ → ℕ → Bool
-resultRoomOk d roomKnots roomXs roomYs = (leb (length (d .knots)) roomKnots && leb (length (d .xs)) roomXs) && leb (length (d .ys)) roomYs
-
--- three lists as they were found
-pub record Kept (knotsBefore : List ℕ) (xsBefore ysBefore : List ℤ) (knotsAfter : List ℕ) (xsAfter ysAfter : List ℤ) : Type 0 where
-  pub sameKnots : knotsAfter ≡ knotsBefore
-  pub sameXs : xsAfter ≡ xsBefore
-  pub sameYs : ysAfter ≡ ysBefore
+abbrev pub resultRoomOk : Curve → ℕ → ℕ → ℕ → Bool
+resultRoomOk d roomKnots roomXs roomYs = roomFor (d .knots) (d .xs) (d .ys) roomKnots roomXs roomYs
 
 pub data CompactOutcome (m : ℕ) (c : Curve) (knotsBefore : List ℕ) (xsBefore ysBefore : List ℤ)
     (answer : CompactAnswer) (knotsAfter : List ℕ) (xsAfter ysAfter : List ℤ) : Type 0 where

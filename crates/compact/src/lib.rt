@@ -1,5 +1,5 @@
 // Compacting a curve ("Inserting and removing a knot"): the call, for any input.
-mod handing;
+mod answering;
 mod through;
 
 ghost use Rattle.compaction.specs.Compaction.{Curve};
@@ -31,7 +31,7 @@ pub fn compact(
     let points = xs.len();
     if points == m + 1 {
         // no inner knot: nothing can go
-        return handing::hand_over(m, points, points, knots, xs, ys, out_knots, out_xs, out_ys);
+        return answering::answer_with(m, points, points, knots, xs, ys, out_knots, out_xs, out_ys);
     }
     if points <= through::SHORT {
         return through::compact_short(m, knots, xs, ys, out_knots, out_xs, out_ys);

@@ -30,7 +30,7 @@ fn compact_through(
     ensures answer { λ r. ⌜ CompactOutcome m (record { knots = now (knots .entry); xs = now (xs .entry); ys = now (ys .entry) }) (now («out_knots» .entry)) (now («out_xs» .entry)) (now («out_ys» .entry)) r (now («out_knots» .exit)) (now («out_xs» .exit)) (now («out_ys» .exit)) ⌝ }
 {
     let left = compaction::compact_into(m, knots, xs, ys, work_knots, work_xs, work_ys);
-    crate::handing::hand_over(
+    crate::answering::answer_with(
         m,
         left,
         xs.len(),

@@ -34,8 +34,8 @@ returns c =
 add-if2 : tie.Need-add-if2
 add-if2 c = search needs
 
-hand-over-requires : tie.Need-hand-over-requires
-hand-over-requires c κs =
+answer-with-requires : tie.Need-answer-with-requires
+answer-with-requires c κs =
     let s = c .before .before .before .before .before .before .before .before in
     let a = s .args in
     let passes = sym (c .before .before .before .before .before .check .ensures) ∙ c .before .before .before .before .if1 .left in
@@ -55,7 +55,7 @@ returns-2 c =
     let s = c .before .before .before .before .before .before .before .before .before .before .before .before .before in
     let a = s .args in
     let passes = sym (c .before .before .before .before .before .before .before .before .before .before .check .ensures) ∙ c .before .before .before .before .before .before .before .before .before .if1 .left in
-    let h = c .before .before .before .before .hand-over in
+    let h = c .before .before .before .before .answer-with in
     outcome-of-pass (a .degree) (record { knots = a .knots .now; xs = a .xs .now; ys = a .ys .now }) passes (a .knots .now) (a .xs .now) (a .ys .now) (length (a .xs .now)) (itself (a .degree) (record { knots = a .knots .now; xs = a .xs .now; ys = a .ys .now }) passes)
     (nothing-inner (a .degree) (record { knots = a .knots .now; xs = a .xs .now; ys = a .ys .now }) passes (c .before .before .before .before .before .before .before .before .if2 .taken))
     (a .out-knots .now) (a .out-xs .now) (a .out-ys .now) (h .result)
@@ -113,7 +113,7 @@ compact-spec =
     check-requires
     returns
     add-if2
-    hand-over-requires
+    answer-with-requires
     same-length
     same-length-2
     same-length-3

@@ -11,8 +11,8 @@ use Rattle.compact.proofs.through.compact_through.Tie as tie
 compact-into-requires : tie.Need-compact-into-requires
 compact-into-requires c κs = search needs
 
-hand-over-requires : tie.Need-hand-over-requires
-hand-over-requires c κs = search needs
+answer-with-requires : tie.Need-answer-with-requires
+answer-with-requires c κs = search needs
 
 same-length : tie.Need-same-length
 same-length c = search needs
@@ -38,7 +38,7 @@ returns c =
     let a = s .args in
     let curve : Curve = record { knots = a .knots .now; xs = a .xs .now; ys = a .ys .now } in
     let p = c .before .before .before .before .before .before .before .before .before .before .before .before .before .before .before .compact-into in
-    let h = c .before .before .before .before .hand-over in
+    let h = c .before .before .before .before .answer-with in
     let room : Holding (a .m) (p .result) (p .last .1 .1 .1 .1 .0) (p .last .1 .1 .1 .1 .1 .0) (p .last .1 .1 .1 .1 .1 .1 .0) =
     record {
       roomKnots = omega (arith, p .ensures .fewer, p .kept .1 .1 .1 .1 .0, s .pre .1 .roomKnots);
@@ -54,7 +54,7 @@ compact-through-spec =
     tie.close
     (tie.spec
     compact-into-requires
-    hand-over-requires
+    answer-with-requires
     same-length
     same-length-2
     same-length-3

@@ -1,0 +1,2 @@
+-- Room, and a copy of a list that fits.
+pub mod RoomLaws

@@ -1,0 +1,2 @@
+-- Handing three lists over into lent ones.
+pub mod Handing
