@@ -1,28 +1,27 @@
 // Inserting, removing and compacting, each with a line of its answer and of the lent lists as they are afterwards.
-mod lines;
-
 use compact::CompactAnswer;
 use insert_knot::InsertAnswer;
 use remove_knot::RemoveAnswer;
+use run_lines::answer;
 
 fn inserted(name: &[u8], a: InsertAnswer) {
     match a {
-        InsertAnswer::Inserted(n) => lines::answer(name, b": inserted, points ", n as u64),
-        InsertAnswer::Refused(n) => lines::answer(name, b": refused ", n as u64),
+        InsertAnswer::Inserted(n) => answer(name, b": inserted, points ", n as u64),
+        InsertAnswer::Refused(n) => answer(name, b": refused ", n as u64),
     }
 }
 
 fn removed(name: &[u8], a: RemoveAnswer) {
     match a {
-        RemoveAnswer::Removed(n) => lines::answer(name, b": removed, points ", n as u64),
-        RemoveAnswer::Refused(n) => lines::answer(name, b": refused ", n as u64),
+        RemoveAnswer::Removed(n) => answer(name, b": removed, points ", n as u64),
+        RemoveAnswer::Refused(n) => answer(name, b": refused ", n as u64),
     }
 }
 
 fn compacted(name: &[u8], a: CompactAnswer) {
     match a {
-        CompactAnswer::Compacted(n) => lines::answer(name, b": compacted, removed ", n as u64),
-        CompactAnswer::Refused(n) => lines::answer(name, b": refused ", n as u64),
+        CompactAnswer::Compacted(n) => answer(name, b": compacted, removed ", n as u64),
+        CompactAnswer::Refused(n) => answer(name, b": refused ", n as u64),
     }
 }
 
@@ -39,7 +38,7 @@ pub fn insert(
 ) {
     let a = insert_knot::insert_knot(degree, ts, xs, ys, v, new_ts, new_xs, new_ys);
     inserted(name, a);
-    lines::lists(new_ts, new_xs, new_ys);
+    run_lines::lists(new_ts, new_xs, new_ys);
 }
 
 pub fn remove(
@@ -55,7 +54,7 @@ pub fn remove(
 ) {
     let a = remove_knot::remove_knot(degree, ts, xs, ys, v, new_ts, new_xs, new_ys);
     removed(name, a);
-    lines::lists(new_ts, new_xs, new_ys);
+    run_lines::lists(new_ts, new_xs, new_ys);
 }
 
 pub fn compact_all(
@@ -70,5 +69,5 @@ pub fn compact_all(
 ) {
     let a = compact::compact(degree, ts, xs, ys, new_ts, new_xs, new_ys);
     compacted(name, a);
-    lines::lists(new_ts, new_xs, new_ys);
+    run_lines::lists(new_ts, new_xs, new_ys);
 }
