@@ -3,7 +3,6 @@
 use crate::reading::number_at;
 ghost use mathlib.Core.Path.{_≡_};
 ghost use lib.ListN.{length};
-ghost use Rattle.case_bytes.specs.Front.{Front};
 
 fn fill_knots(room: &mut [u16])
     ensures { λ _. ⌜ length (now (room .exit)) ≡ length (now (room .entry)) ⌝ }
@@ -41,36 +40,30 @@ fn fill_bytes(room: &mut [u8])
     }
 }
 
-// The capacity that stands at `at`, 0 where there is no such room.
-pub fn lend_knots(body: &[u8], at: usize, room: &mut [u16]) -> usize
-    ensures { λ r. ⌜ Front r (now (room .exit)) ⌝ }
-{
+// As many places of the room as the number at `at` says, none where it has fewer.
+pub fn lend_knots<'a>(body: &[u8], at: usize, room: &'a mut [u16]) -> &'a mut [u16] {
     let capacity = number_at(body, at) as usize;
     fill_knots(room);
     if room.len() < capacity {
-        return 0;
+        return &mut room[..0];
     }
-    capacity
+    &mut room[..capacity]
 }
 
-pub fn lend_coordinates(body: &[u8], at: usize, room: &mut [i32]) -> usize
-    ensures { λ r. ⌜ Front r (now (room .exit)) ⌝ }
-{
+pub fn lend_coordinates<'a>(body: &[u8], at: usize, room: &'a mut [i32]) -> &'a mut [i32] {
     let capacity = number_at(body, at) as usize;
     fill_coordinates(room);
     if room.len() < capacity {
-        return 0;
+        return &mut room[..0];
     }
-    capacity
+    &mut room[..capacity]
 }
 
-pub fn lend_bytes(body: &[u8], at: usize, room: &mut [u8]) -> usize
-    ensures { λ r. ⌜ Front r (now (room .exit)) ⌝ }
-{
+pub fn lend_bytes<'a>(body: &[u8], at: usize, room: &'a mut [u8]) -> &'a mut [u8] {
     let capacity = number_at(body, at) as usize;
     fill_bytes(room);
     if room.len() < capacity {
-        return 0;
+        return &mut room[..0];
     }
-    capacity
+    &mut room[..capacity]
 }

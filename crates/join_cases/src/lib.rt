@@ -43,54 +43,23 @@ fn with_rooms(
     ty: &[i32],
     body: &[u8],
     at: usize,
-    new_knots: &mut [u16],
-    new_xs: &mut [i32],
-    new_ys: &mut [i32],
     out: &mut [u8],
 ) -> usize {
     if case_bytes::MOST_BYTES < at {
         return 0;
     }
-    let knot_places = lend_knots(body, at, new_knots);
-    let x_places = lend_coordinates(body, at + 4, new_xs);
-    let y_places = lend_coordinates(body, at + 8, new_ys);
+    let mut new_knots = case_bytes::knots();
+    let mut new_xs = case_bytes::coordinates();
+    let mut new_ys = case_bytes::coordinates();
     call(
         params,
         px,
         py,
         tx,
         ty,
-        &mut new_knots[..knot_places],
-        &mut new_xs[..x_places],
-        &mut new_ys[..y_places],
-        out,
-    )
-}
-
-fn make_rooms(
-    params: &[u16],
-    px: &[i32],
-    py: &[i32],
-    tx: &[i32],
-    ty: &[i32],
-    body: &[u8],
-    at: usize,
-    out: &mut [u8],
-) -> usize {
-    let mut new_knots = case_bytes::knots();
-    let mut new_xs = case_bytes::coordinates();
-    let mut new_ys = case_bytes::coordinates();
-    with_rooms(
-        params,
-        px,
-        py,
-        tx,
-        ty,
-        body,
-        at,
-        &mut new_knots,
-        &mut new_xs,
-        &mut new_ys,
+        lend_knots(body, at, &mut new_knots),
+        lend_coordinates(body, at + 4, &mut new_xs),
+        lend_coordinates(body, at + 8, &mut new_ys),
         out,
     )
 }
@@ -110,7 +79,7 @@ fn with_tangents(
     let x_count = x.count;
     let y = take_coordinates(body, x.next, ty);
     let y_count = y.count;
-    make_rooms(
+    with_rooms(
         params,
         px,
         py,

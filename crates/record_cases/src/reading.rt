@@ -30,14 +30,8 @@ fn call(
     put_lists(out, told, new_knots, new_xs, new_ys)
 }
 
-// The bytes stand from 5 on, the capacities behind them.
-fn with_rooms(
-    body: &[u8],
-    new_knots: &mut [u16],
-    new_xs: &mut [i32],
-    new_ys: &mut [i32],
-    out: &mut [u8],
-) -> usize {
+// The answer to a case of reading a record: the bytes stand from 5 on, the capacities behind them.
+pub fn read(body: &[u8], out: &mut [u8]) -> usize {
     let end = bytes_end(body, 1);
     if end < 5 {
         return 0;
@@ -45,25 +39,22 @@ fn with_rooms(
     if body.len() < end {
         return 0;
     }
-    if case_bytes::MOST_BYTES < end {
-        return 0;
-    }
-    let knot_places = lend_knots(body, end, new_knots);
-    let x_places = lend_coordinates(body, end + 4, new_xs);
-    let y_places = lend_coordinates(body, end + 8, new_ys);
-    call(
-        &body[5..end],
-        &mut new_knots[..knot_places],
-        &mut new_xs[..x_places],
-        &mut new_ys[..y_places],
-        out,
-    )
+    with_rooms(&body[5..end], body, end, out)
 }
 
-// The answer to a case of reading a record.
-pub fn read(body: &[u8], out: &mut [u8]) -> usize {
+// The capacities stand at `at`.
+fn with_rooms(bytes: &[u8], body: &[u8], at: usize, out: &mut [u8]) -> usize {
+    if case_bytes::MOST_BYTES < at {
+        return 0;
+    }
     let mut new_knots = case_bytes::knots();
     let mut new_xs = case_bytes::coordinates();
     let mut new_ys = case_bytes::coordinates();
-    with_rooms(body, &mut new_knots, &mut new_xs, &mut new_ys, out)
+    call(
+        bytes,
+        lend_knots(body, at, &mut new_knots),
+        lend_coordinates(body, at + 4, &mut new_xs),
+        lend_coordinates(body, at + 8, &mut new_ys),
+        out,
+    )
 }

@@ -28,20 +28,6 @@ fn call(
     put_bytes(out, told, bytes)
 }
 
-fn with_room(
-    degree: u32,
-    knots: &[u16],
-    xs: &[i32],
-    ys: &[i32],
-    body: &[u8],
-    at: usize,
-    bytes: &mut [u8],
-    out: &mut [u8],
-) -> usize {
-    let places = lend_bytes(body, at, bytes);
-    call(degree, knots, xs, ys, &mut bytes[..places], out)
-}
-
 // What stands at `at` of the case, for a curve that was read.
 pub fn write(
     degree: u32,
@@ -53,5 +39,5 @@ pub fn write(
     out: &mut [u8],
 ) -> usize {
     let mut bytes = case_bytes::bytes();
-    with_room(degree, knots, xs, ys, body, at, &mut bytes, out)
+    call(degree, knots, xs, ys, lend_bytes(body, at, &mut bytes), out)
 }

@@ -33,15 +33,14 @@ fn call(
     put_knots(out, half, highs)
 }
 
-fn with_rooms(
+// What stands at `at` of the case, for a curve that was read.
+pub fn spans(
     degree: u32,
     knots: &[u16],
     xs: &[i32],
     ys: &[i32],
     body: &[u8],
     at: usize,
-    lows: &mut [u16],
-    highs: &mut [u16],
     out: &mut [u8],
 ) -> usize {
     if case_bytes::MOST_BYTES < at {
@@ -53,31 +52,16 @@ fn with_rooms(
         low_y: coordinate_at(body, at + 8),
         high_y: coordinate_at(body, at + 12),
     };
-    let low_places = lend_knots(body, at + 16, lows);
-    let high_places = lend_knots(body, at + 20, highs);
+    let mut lows = case_bytes::knots();
+    let mut highs = case_bytes::knots();
     call(
         degree,
         knots,
         xs,
         ys,
         clamp,
-        &mut lows[..low_places],
-        &mut highs[..high_places],
+        lend_knots(body, at + 16, &mut lows),
+        lend_knots(body, at + 20, &mut highs),
         out,
     )
-}
-
-// What stands at `at` of the case, for a curve that was read.
-pub fn spans(
-    degree: u32,
-    knots: &[u16],
-    xs: &[i32],
-    ys: &[i32],
-    body: &[u8],
-    at: usize,
-    out: &mut [u8],
-) -> usize {
-    let mut lows = case_bytes::knots();
-    let mut highs = case_bytes::knots();
-    with_rooms(degree, knots, xs, ys, body, at, &mut lows, &mut highs, out)
 }

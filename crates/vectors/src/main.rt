@@ -1,5 +1,9 @@
 // Runs every case on standard input through the library and writes the answers, byte for byte as tests/second.py expects them;
 // with too few cases of a call or a refusal it writes a line more, so that the comparison fails.
+mod answers;
+mod on_curve;
+mod tally;
+
 use libc::STDIN_FILENO;
 use libc::STDOUT_FILENO;
 
@@ -14,12 +18,12 @@ fn filled(room: &mut [u8], n: usize) -> bool {
 
 // Answers the case in the first n bytes of `case`, and counts it.
 fn answer_case(case: &[u8], out: &mut [u8], counts: &mut [u32]) -> bool {
-    let length = vector_cases::answer(case, out);
+    let length = answers::answer(case, out);
     if out.len() < length {
         return false;
     }
     let answer = &out[..length];
-    vector_cases::count_case(case, answer, counts);
+    tally::count_case(case, answer, counts);
     io::write_all(STDOUT_FILENO, answer)
 }
 
@@ -57,12 +61,12 @@ fn run_cases(counts: &mut [u32]) {
 
 fn finish(counts: &mut [u32]) {
     run_cases(counts);
-    if !vector_cases::enough(counts) {
+    if !tally::enough(counts) {
         io::write_all(STDOUT_FILENO, b"too few cases\n");
     }
 }
 
 fn main() {
-    let mut counts = vector_cases::no_counts();
+    let mut counts = tally::no_counts();
     finish(&mut counts);
 }

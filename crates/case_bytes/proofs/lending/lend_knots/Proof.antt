@@ -1,7 +1,8 @@
--- `case_bytes::lending::lend_knots` is safe and answers a front of the room.
+-- The part that it lends is no longer than the room.
 use borrow.Author.Needs.{needs}
 use native.Mathlib.Omega.{arith}
-use Rattle.case_bytes.proofs.FrontLaws.{front-of-le}
+use mathlib.Core.Path.{sym}
+use lib.Seq.{length-take-le}
 use Rattle.case_bytes.proofs.lending.lend_knots.Statement.{statement}
 use Rattle.case_bytes.proofs.lending.lend_knots.Tie as tie
 
@@ -14,17 +15,17 @@ cast-capacity c = search needs
 fill-knots-requires : tie.Need-fill-knots-requires
 fill-knots-requires c κs = search needs
 
-same-length : tie.Need-same-length
-same-length c = search needs
+slice-aggregate-result : tie.Need-slice-aggregate-result
+slice-aggregate-result c = search needs
 
 returns : tie.Need-returns
 returns c = search needs
 
-same-length-2 : tie.Need-same-length-2
-same-length-2 c = search needs
+slice-aggregate-result-2 : tie.Need-slice-aggregate-result-2
+slice-aggregate-result-2 c = sym (length-take-le _ _ (omega arith))
 
 returns-2 : tie.Need-returns-2
-returns-2 c = front-of-le _ _ (omega arith)
+returns-2 c = search needs
 
 pub lend-knots-spec : {M : Type 1} → statement M
 lend-knots-spec =
@@ -33,7 +34,7 @@ lend-knots-spec =
     number-at-requires
     cast-capacity
     fill-knots-requires
-    same-length
+    slice-aggregate-result
     returns
-    same-length-2
+    slice-aggregate-result-2
     returns-2)

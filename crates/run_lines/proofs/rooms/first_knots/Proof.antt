@@ -3,7 +3,6 @@ use borrow.Author.Needs.{needs}
 use native.Mathlib.Omega.{arith}
 use mathlib.Core.Path.{sym}
 use lib.Seq.{length-take-le}
-use borrow.Author.Needs.{needs}
 use Rattle.run_lines.proofs.rooms.first_knots.Statement.{statement}
 use Rattle.run_lines.proofs.rooms.first_knots.Tie as tie
 

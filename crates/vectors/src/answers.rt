@@ -1,14 +1,9 @@
 // One case of the second program through the library: the call's number decides who reads the rest of the case's bytes and
-// writes the answer's; and the count of cases, so that too few are noticed.
-mod on_curve;
-mod tally;
-
-pub use tally::count_case;
-pub use tally::enough;
-pub use tally::no_counts;
+// writes the answer's.
+use crate::on_curve;
 
 // The answer to one case: how many bytes of `out` it has.
-pub fn answer(body: &[u8], out: &mut [u8]) -> usize {
+pub(crate) fn answer(body: &[u8], out: &mut [u8]) -> usize {
     if body.len() < 1 {
         return 0;
     }

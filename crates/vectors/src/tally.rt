@@ -26,7 +26,7 @@ fn wide(b: u8) -> usize {
 }
 
 // Counts a case by its call and by the number that its answer begins with.
-pub fn count_case(body: &[u8], answer: &[u8], counts: &mut [u32]) {
+pub(crate) fn count_case(body: &[u8], answer: &[u8], counts: &mut [u32]) {
     if body.len() < 1 {
         return;
     }
@@ -74,7 +74,7 @@ fn least(place: usize) -> u32 {
 }
 
 // Whether there were enough cases in all, of each call and of each refusal.
-pub fn enough(counts: &[u32]) -> bool {
+pub(crate) fn enough(counts: &[u32]) -> bool {
     let mut place = 0;
     while place < counts.len() {
         if counts[place] < least(place) {
@@ -86,7 +86,7 @@ pub fn enough(counts: &[u32]) -> bool {
 }
 
 // The counts before the first case, for calls up to 12.
-pub fn no_counts() -> [u32; 416]
+pub(crate) fn no_counts() -> [u32; 416]
     ensures { λ r. ⌜ 416 ≡ length r ⌝ }
 {
     [0; 416]

@@ -1,9 +1,9 @@
--- `vector_cases::tally::enough` is safe and ends.
+-- `vectors::tally::enough` is safe and ends.
 use borrow.Author.Needs.{needs}
 use Prim.Native.Nat.{_-_}
 use lib.ListN.{length}
-use Rattle.vector_cases.proofs.tally.enough.Statement.{statement}
-use Rattle.vector_cases.proofs.tally.enough.Tie as tie
+use Rattle.vectors.proofs.tally.enough.Statement.{statement}
+use Rattle.vectors.proofs.tally.enough.Tie as tie
 
 abbrev Inv-loop : tie.InvT-loop
 Inv-loop counts place₀ place = Unit {0}

@@ -3,6 +3,30 @@ use case_bytes::number_at;
 use case_bytes::take_coordinates;
 use case_bytes::take_knots;
 
+// The check, the point and the carrying coordinates; what else the call takes stands at `at`.
+fn told<'a>(
+    call: u8,
+    degree: u32,
+    knots: &[u16],
+    xs: &'a [i32],
+    ys: &'a [i32],
+    body: &[u8],
+    at: usize,
+    out: &mut [u8],
+) -> usize {
+    if case_bytes::MOST_BYTES < at {
+        return 0;
+    }
+    let t = number_at(body, at);
+    let axis = number_at(body, at + 4);
+    match call {
+        1 => curve_cases::check(degree, knots, xs, ys, out),
+        2 => curve_cases::point(degree, knots, xs, ys, t, out),
+        3 => curve_cases::carried(degree, knots, xs, ys, t, axis, out),
+        _ => 0,
+    }
+}
+
 // The call on a curve; what else it takes stands at `at`.
 fn run<'a>(
     degree: u32,
@@ -16,25 +40,20 @@ fn run<'a>(
     if body.len() < 1 {
         return 0;
     }
-    if case_bytes::MOST_BYTES < at {
-        return 0;
-    }
     let call = body[0];
-    match call {
-        1 => curve_cases::check(degree, knots, xs, ys, out),
-        2 => curve_cases::point(degree, knots, xs, ys, number_at(body, at), out),
-        3 => {
-            let t = number_at(body, at);
-            let axis = number_at(body, at + 4);
-            curve_cases::carried(degree, knots, xs, ys, t, axis, out)
-        }
-        4 => insert_cases::insert(degree, knots, xs, ys, body, at, out),
-        5 => remove_cases::remove(degree, knots, xs, ys, body, at, out),
-        6 => compact_cases::compacted(degree, knots, xs, ys, body, at, out),
-        8 => span_cases::spans(degree, knots, xs, ys, body, at, out),
-        9 => record_cases::write(degree, knots, xs, ys, body, at, out),
-        _ => 0,
+    if call < 4 {
+        return told(call, degree, knots, xs, ys, body, at, out);
     }
+    if call < 7 {
+        return knot_cases::change(call, degree, knots, xs, ys, body, at, out);
+    }
+    if call == 8 {
+        return span_cases::spans(degree, knots, xs, ys, body, at, out);
+    }
+    if call == 9 {
+        return record_cases::write(degree, knots, xs, ys, body, at, out);
+    }
+    0
 }
 
 // The curve stands behind the call's number.
