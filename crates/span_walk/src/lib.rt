@@ -6,7 +6,18 @@ ghost use mathlib.Core.List.{_++_};
 ghost use Prim.Native.Nat.{_+_, _≤_, _<_};
 ghost use lib.ListN.{length, drop};
 ghost use Rattle.lent.specs.Lent.{over};
-ghost use Rattle.span_walk.specs.SpansMet.{metBy, nonEmpty, boxMeets, spanCount, lowKnots, highKnots};
+ghost use Rattle.boxes.specs.Meeting.{meetsOnAxis};
+ghost use Rattle.span_walk.specs.SpansMet.{carryingOf, metBy, nonEmpty, boxMeets, spanCount, lowKnots, highKnots};
+
+// Whether the box of span i meets a range of one axis.
+fn box_meets_on_axis(coordinates: &[i32], m: usize, i: usize, low: i32, high: i32) -> bool
+    requires { ⌜ (1 ≤ m) × (m ≤ i) × (i < length (now coordinates)) ⌝ }
+    ensures answer { λ r. ⌜ r ≡ meetsOnAxis low high (carryingOf m i (now (coordinates .entry))) ⌝ }
+{
+    let first = i - m;
+    let end = i + 1;
+    boxes::meets_on_axis(&coordinates[first..end], low, high)
+}
 
 // Whether span i is not empty and its box meets the clamp.
 pub fn meets(knots: &[u16], xs: &[i32], ys: &[i32], m: usize, i: usize, clamp: Rectangle) -> bool
@@ -16,10 +27,8 @@ pub fn meets(knots: &[u16], xs: &[i32], ys: &[i32], m: usize, i: usize, clamp: R
     if knots[i] >= knots[i + 1] {
         return false;
     }
-    let first = i - m;
-    let end = i + 1;
-    if boxes::meets_on_axis(&xs[first..end], clamp.low_x, clamp.high_x) {
-        return boxes::meets_on_axis(&ys[first..end], clamp.low_y, clamp.high_y);
+    if box_meets_on_axis(xs, m, i, clamp.low_x, clamp.high_x) {
+        return box_meets_on_axis(ys, m, i, clamp.low_y, clamp.high_y);
     }
     false
 }
