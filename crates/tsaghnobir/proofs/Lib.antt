@@ -3,3 +3,4 @@ pub mod Answers
 pub mod ArmLaws
 pub mod CarryingLaws
 pub mod CompactLaws
+mod SpansLaws

@@ -17,7 +17,7 @@ enum-known-answer-2 : tie.Need-enum-known-answer-2
 enum-known-answer-2 c = search needs
 
 same-length : tie.Need-same-length
-same-length c = search needs
+same-length c = c .before .before .before .before .before .write-record .kept .1 .1 .1 .1 .0
 
 returns : tie.Need-returns
 unfolding writeAnswer
@@ -27,7 +27,7 @@ returns c =
     (sym (d .0), (rw (d .0) at (call .ensures .1), d .1))
 
 same-length-2 : tie.Need-same-length-2
-same-length-2 c = search needs
+same-length-2 c = c .before .before .before .before .before .write-record .kept .1 .1 .1 .1 .0
 
 returns-2 : tie.Need-returns-2
 unfolding writeAnswer
