@@ -63,13 +63,13 @@ sub-t12 : tie.Need-sub-t12
 sub-t12 c = omega (arith, standing-x (c .before .before .before .before .before .before .before .before .before .before) .rising .least)
 
 same-length : tie.Need-same-length
-same-length c = search needs
+same-length c = c .before .before .before .before .before .before .before .before .write-knots .kept .1 .0
 
 same-length-2 : tie.Need-same-length-2
-same-length-2 c = search needs
+same-length-2 c = c .before .before .before .before .write-points .kept .1 .1 .1 .0
 
 same-length-3 : tie.Need-same-length-3
-same-length-3 c = search needs
+same-length-3 c = c .before .write-points2 .kept .1 .1 .1 .0
 
 returns-2 : tie.Need-returns-2
 returns-2 c =

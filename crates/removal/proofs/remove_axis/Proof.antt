@@ -42,7 +42,7 @@ from-left-requires : tie.Need-from-left-requires
 from-left-requires c κs = search needs
 
 same-length : tie.Need-same-length
-same-length c = search needs
+same-length c = c .before .before .from-left .kept .1 .1 .1 .1 .1 .1 .0
 
 returns : tie.Need-returns
 returns c =
@@ -69,7 +69,7 @@ agrees-requires c κs =
     reduced-weighed (a .m) (a .ks .now) (a .v) (length (a .ps .now) - 1) (s .pre .0) (f .far-end .result) (f .far-end .ensures .from) (f .far-end .ensures .to)
 
 same-length-2 : tie.Need-same-length-2
-same-length-2 c = search needs
+same-length-2 c = c .before .before .before .before .before .from-left .kept .1 .1 .1 .1 .1 .1 .0
 
 -- the last point of the walk, as the call is handed it
 last : (c : tie.After-agrees) → toZ w32 (ofZ w32 (pointAt (c .before .before .before .before .from-left .last .1 .1 .1 .1 .1 .1 .0) (c .before .before .before .before .before .before .far-end .result - 1))) ≡ pointAt (c .before .before .before .before .from-left .last .1 .1 .1 .1 .1 .1 .0) (c .before .before .before .before .before .before .far-end .result - 1)

@@ -69,10 +69,10 @@ fill-requires c κs =
     (size .degree-least, omega arith, size .as-many, omega arith, rw (c .before .before .before .before .count-spans .ensures) at (c .before .before .before .if3 .left), rw (c .before .before .before .before .count-spans .ensures) at (c .before .before .if4 .left))
 
 same-length : tie.Need-same-length
-same-length c = search needs
+same-length c = c .before .before .before .before .fill .kept .1 .1 .1 .1 .1 .0
 
 same-length-2 : tie.Need-same-length-2
-same-length-2 c = search needs
+same-length-2 c = c .before .before .before .before .fill .kept .1 .1 .1 .1 .1 .1 .0
 
 returns-5 : tie.Need-returns-5
 returns-5 c =

@@ -34,7 +34,7 @@ put-clear-line-requires : tie.Need-put-clear-line-requires
 put-clear-line-requires c κs = omega (arith, clearLine-most (c .before .before .before .before .before .before .before .before .before .args .number) (omega arith))
 
 same-length : tie.Need-same-length
-same-length c = search needs
+same-length c = c .before .before .put-clear-line .kept .0
 
 returns-5 : tie.Need-returns-5
 returns-5 c =
@@ -47,7 +47,7 @@ put-meet-lines-requires c κs =
     (omega arith, omega (arith, meetLines-most (a .number) (a .lows .now) (a .highs .now) (omega arith) (λ i. omega (arith, c .before .before .before .before .before .before .before .before .shared-slice-known .given i)) (λ i. omega (arith, c .before .before .before .before .before .before .before .shared-slice-known2 .given i))))
 
 same-length-2 : tie.Need-same-length-2
-same-length-2 c = search needs
+same-length-2 c = c .before .before .put-meet-lines .kept .0
 
 returns-6 : tie.Need-returns-6
 returns-6 c =

@@ -17,7 +17,7 @@ put-refused-line-requires : tie.Need-put-refused-line-requires
 put-refused-line-requires c κs = omega (arith, refusedLine-most (c .before .before .before .args .number) (omega arith))
 
 same-length : tie.Need-same-length
-same-length c = search needs
+same-length c = c .before .before .put-refused-line .kept .0
 
 returns-2 : tie.Need-returns-2
 returns-2 c =

@@ -98,13 +98,13 @@ enum-told : tie.Need-enum-told
 enum-told c = search needs
 
 same-length : tie.Need-same-length
-same-length c = search needs
+same-length c = c .before .before .before .before .before .before .before .before .before .before .before .before .before .list-spans-met .kept .1 .1 .1 .1 .1 .0
 
 same-length-2 : tie.Need-same-length-2
-same-length-2 c = search needs
+same-length-2 c = c .before .before .before .before .before .before .before .before .before .before .before .before .before .list-spans-met .kept .1 .1 .1 .1 .1 .1 .0
 
 same-length-3 : tie.Need-same-length-3
-same-length-3 c = search needs
+same-length-3 c = c .before .before .listed-text .kept .1 .1 .1 .0
 
 returns-3 : tie.Need-returns-3
 returns-3 c =
@@ -113,10 +113,10 @@ returns-3 c =
     told-lines (a .degree) (a .knots .now) (a .xs .now) (a .ys .now) (a .clamps .now) (a .k) (a .lows .now) (a .highs .now) (a .out .now) (c .before .before .listed-text .last .1 .1 .1 .0) (c .before .before .before .before .before .before .before .before .before .before .before .before .before .list-spans-met .last .1 .1 .1 .1 .1 .0) (c .before .before .before .before .before .before .before .before .before .before .before .before .before .list-spans-met .last .1 .1 .1 .1 .1 .1 .0) (told .before .answer .given .0 .0) (c .before .before .listed-text .result) (omega arith) (omega arith) (counts told) (lows-after (c .before .before .before .before .before .before .before .before .before .before .before .before .before)) (highs-after (c .before .before .before .before .before .before .before .before .before .before .before .before .before)) (c .before .before .listed-text .ensures)
 
 same-length-4 : tie.Need-same-length-4
-same-length-4 c = search needs
+same-length-4 c = c .before .before .before .before .before .before .list-spans-met .kept .1 .1 .1 .1 .1 .0
 
 same-length-5 : tie.Need-same-length-5
-same-length-5 c = search needs
+same-length-5 c = c .before .before .before .before .before .before .list-spans-met .kept .1 .1 .1 .1 .1 .1 .0
 
 returns-4 : tie.Need-returns-4
 returns-4 c =
