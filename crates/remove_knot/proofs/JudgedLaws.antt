@@ -6,17 +6,18 @@ use Prim.Native.Nat.{ℕ, suc, _+_, _-_, _≤_, _<_}
 use native.Mathlib.Decide.{ℕ-discrete}
 use native.Mathlib.Numerals.{add-one}
 use native.Mathlib.Omega.{arith}
-use lib.Dec.{ltb, leb}
+use lib.Dec.{ltb}
 use lib.IntN.{ℤ}
 use lib.ListN.{length, getD, drop, drop-of-length-le}
 use lib.Seq.{drop-cons}
-use borrow.Author.Tests.{lt-ltb, le-ltb, le-leb, lt-leb, leb-true, ltb-true, eq-eqb, ne-eqb}
+use borrow.Author.Tests.{lt-ltb, le-ltb, ltb-true, eq-eqb, ne-eqb}
 use Rattle.refusal.specs.Numbers.{accepted, notInnerRefused}
 use Rattle.refusal.proofs.JudgingLaws.{unless-accepted}
 use Rattle.grid.specs.Rows.{occurrences}
 use Rattle.grid.specs.Check.{Passes, checkNumber, checkedThen}
 use Rattle.grid.proofs.OrderLaws.{both}
 use Rattle.grid.proofs.ThenLaws.{checkedThen-passed, checkedThen-refused}
+use Rattle.handing.specs.Handing.{roomFor}
 use Rattle.removal.specs.Polygon.{Inner}
 use Rattle.remove_knot.specs.Judged.{innerOk, removalNumber, fewerRoomOk}
 
@@ -53,27 +54,15 @@ module _ (m : ℕ) (ts : List ℕ) (xs : List ℤ) (v : ℕ) where
   unfolding innerOk
   inner-stands h k = rw (lt-ltb (getD ts m 0) v h, lt-ltb v (getD ts (length xs) 0) k)
 
--- row 15, one list after the other
-module _ (ts : List ℕ) (xs ys : List ℤ) (roomKnots roomXs roomYs : ℕ) where
-  pub fewer-knots : roomKnots < length ts - 1 → false ≡ fewerRoomOk ts xs ys roomKnots roomXs roomYs
-  unfolding fewerRoomOk
-  fewer-knots h = rw (lt-leb (length ts - 1) roomKnots h)
-
-  pub fewer-xs : length ts - 1 ≤ roomKnots → roomXs < length xs - 1 → false ≡ fewerRoomOk ts xs ys roomKnots roomXs roomYs
-  unfolding fewerRoomOk
-  fewer-xs h k = rw (le-leb (length ts - 1) roomKnots h, lt-leb (length xs - 1) roomXs k)
-
-  pub fewer-ys : length ts - 1 ≤ roomKnots → length xs - 1 ≤ roomXs → leb (length ys - 1) roomYs ≡ fewerRoomOk ts xs ys roomKnots roomXs roomYs
-  unfolding fewerRoomOk
-  fewer-ys h k = rw (le-leb (length ts - 1) roomKnots h, le-leb (length xs - 1) roomXs k)
-
-  pub fewer-of-test : fewerRoomOk ts xs ys roomKnots roomXs roomYs ≡ true
-      → (length ts - 1 ≤ roomKnots) × (length xs - 1 ≤ roomXs) × (length ys - 1 ≤ roomYs)
-  unfolding fewerRoomOk
-  fewer-of-test h =
-      let p = both (leb (length ts - 1) roomKnots && leb (length xs - 1) roomXs) (leb (length ys - 1) roomYs) h in
-      let q = both (leb (length ts - 1) roomKnots) (leb (length xs - 1) roomXs) (p .0) in
-      (leb-true _ _ (q .0), leb-true _ _ (q .1), leb-true _ _ (p .1))
+-- row 15: room for lists that are one shorter
+pub fewer-room : (ts ks : List ℕ) (xs ys px py : List ℤ) (roomKnots roomXs roomYs : ℕ) → length ks + 1 ≡ length ts → length px + 1 ≡ length xs → length py + 1 ≡ length ys
+    → roomFor ks px py roomKnots roomXs roomYs ≡ fewerRoomOk ts xs ys roomKnots roomXs roomYs
+unfolding roomFor fewerRoomOk
+fewer-room ts ks xs ys px py roomKnots roomXs roomYs a b c =
+    let k : length ts - 1 ≡ length ks = omega arith in
+    let x : length xs - 1 ≡ length px = omega arith in
+    let y : length ys - 1 ≡ length py = omega arith in
+    rw (k, x, y)
 
 module _ (m : ℕ) (ts : List ℕ) (xs ys : List ℤ) (v : ℕ) where
   pub number-refused : (checkNumber m ts xs ys ≡ 0 → ⊥) → checkNumber m ts xs ys ≡ removalNumber m ts xs ys v

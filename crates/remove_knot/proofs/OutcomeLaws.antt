@@ -1,26 +1,20 @@
 -- How the outcomes of a removal come about; and two outcomes of one call are the same.
-use mathlib.Core.Bool.{Bool, true, false, true≢false}
-use mathlib.Core.List.{List, _++_}
-use mathlib.Core.Path.{_≡_, refl, sym, ap, ap₂, _∙_}
-use Prim.Native.Nat.{ℕ, _+_, _-_, _≤_}
-use native.Mathlib.Omega.{arith}
+use mathlib.Core.Bool.{Bool, true, false, true≢false, cond}
+use mathlib.Core.List.{List}
+use mathlib.Core.Path.{_≡_, refl, sym, ap, _∙_}
+use Prim.Native.Nat.{ℕ, _+_}
 use lib.IntN.{ℤ}
-use lib.ListN.{length, take, drop}
-use lib.Seq.{take-all}
+use lib.ListN.{length}
 use Rattle.lent.specs.Lent.{over}
 use Rattle.removal.specs.Removal.{withoutOne, Reinserts, Removable}
 use Rattle.removal.specs.Polygon.{Inner, PolygonOutcome}
 use Rattle.removal.proofs.PolygonLaws.{reinserts-unique}
 use Rattle.remove_knot.specs.declared.RemoveAnswer.{RemoveAnswer}
 use Rattle.remove_knot.specs.declared.RemoveAnswer.the-variants.{Removed, Refused}
-use Rattle.remove_knot.specs.Judged.{removalNumber, fewerRoomOk}
-use Rattle.remove_knot.specs.Outcome.{Kept, RemovalOutcome, refused, notRemovable, noRoom, removed}
-use Rattle.remove_knot.proofs.JudgedLaws.{number-of-inner, fewer-of-test}
-
--- a copy of a list that fits
-pub copied-whole : {A : Type 0} (source before after : List A) → length source ≤ length before
-    → after ≡ over (take (length before) source) before → after ≡ over source before
-copied-whole source before after fits e = e ∙ rw (take-all (length before) source fits)
+use Rattle.handing.specs.Handing.{roomFor, handed, Kept}
+use Rattle.remove_knot.specs.Judged.{removalNumber}
+use Rattle.remove_knot.specs.Outcome.{RemovalOutcome, refused, notRemovable, noRoom, removed}
+use Rattle.remove_knot.proofs.JudgedLaws.{number-of-inner, fewer-room}
 
 -- lists that nothing was written to
 pub nothing-written : (ks : List ℕ) (xs ys : List ℤ) → Kept ks xs ys ks xs ys
@@ -66,19 +60,14 @@ module _ (m : ℕ) (ts : List ℕ) (xs ys : List ℤ) (v : ℕ) (inner : Inner m
   pub outcome-none : r ≡ false → RemovalOutcome m ts xs ys v ks kx ky (Refused 13) ks kx ky
   outcome-none e = notRemovable (number-of-inner m ts xs ys v inner) (outcome .none e) refl (nothing-written ks kx ky)
 
-  pub outcome-short : r ≡ true → fewerRoomOk ts xs ys (length ks) (length kx) (length ky) ≡ false
-      → RemovalOutcome m ts xs ys v ks kx ky (Refused 15) ks kx ky
-  outcome-short e f =
-      noRoom (number-of-inner m ts xs ys v inner) (record { px = wx; py = wy; reinserts = outcome .found e }) f refl (nothing-written ks kx ky)
-
-  pub outcome-removed : r ≡ true → fewerRoomOk ts xs ys (length ks) (length kx) (length ky) ≡ true
-      → length wk + 1 ≡ length ts → length wx + 1 ≡ length xs → length wy + 1 ≡ length ys
-      → (l : List ℕ) (u w : List ℤ)
-      → l ≡ over (take (length ks) wk) ks → u ≡ over (take (length kx) wx) kx → w ≡ over (take (length ky) wy) ky
-      → RemovalOutcome m ts xs ys v ks kx ky (Removed (length wx)) l u w
-  outcome-removed e f a b d l u w p q s =
-      let room = fewer-of-test ts xs ys (length ks) (length kx) (length ky) f in
-      removed (number-of-inner m ts xs ys v inner) wx wy (outcome .found e) f refl
-      (copied-whole wk ks l (omega (arith, room .0)) p ∙ ap (λ (z : List ℕ). over z ks) (outcome .knots e))
-      (copied-whole wx kx u (omega (arith, room .1)) q)
-      (copied-whole wy ky w (omega (arith, room .2)) s)
+  -- the polygon goes over into the lent lists, or 15
+  pub outcome-handed : r ≡ true → length wk + 1 ≡ length ts → length wx + 1 ≡ length xs → length wy + 1 ≡ length ys
+      → (h : Bool) (l : List ℕ) (u w : List ℤ) → h ≡ roomFor wk wx wy (length ks) (length kx) (length ky)
+      → l ≡ handed h wk ks → u ≡ handed h wx kx → w ≡ handed h wy ky
+      → RemovalOutcome m ts xs ys v ks kx ky (cond h (Removed (length wx)) (Refused 15)) l u w
+  outcome-handed e a b d true l u w f p q s =
+      removed (number-of-inner m ts xs ys v inner) wx wy (outcome .found e) (sym (f ∙ fewer-room ts wk xs ys wx wy (length ks) (length kx) (length ky) a b d)) refl
+      (p ∙ ap (λ (z : List ℕ). over z ks) (outcome .knots e)) q s
+  outcome-handed e a b d false l u w f p q s =
+      noRoom (number-of-inner m ts xs ys v inner) (record { px = wx; py = wy; reinserts = outcome .found e })
+      (sym (f ∙ fewer-room ts wk xs ys wx wy (length ks) (length kx) (length ky) a b d)) refl (record { sameKnots = p; sameXs = q; sameYs = s })

@@ -8,16 +8,11 @@ use lib.IntN.{ℤ}
 use lib.ListN.{length}
 use Rattle.refusal.specs.Numbers.{notRemovableRefused, roomRefused}
 use Rattle.lent.specs.Lent.{over}
+use Rattle.handing.specs.Handing.{Kept}
 use Rattle.removal.specs.Removal.{withoutOne, Reinserts, Removable}
 use Rattle.remove_knot.specs.declared.RemoveAnswer.{RemoveAnswer}
 use Rattle.remove_knot.specs.declared.RemoveAnswer.the-variants.{Removed, Refused}
 use Rattle.remove_knot.specs.Judged.{removalNumber, fewerRoomOk}
-
--- three lists as they were found
-pub record Kept (knotsBefore : List ℕ) (xsBefore ysBefore : List ℤ) (knotsAfter : List ℕ) (xsAfter ysAfter : List ℤ) : Type 0 where
-  pub sameKnots : knotsAfter ≡ knotsBefore
-  pub sameXs : xsAfter ≡ xsBefore
-  pub sameYs : ysAfter ≡ ysBefore
 
 pub data RemovalOutcome (m : ℕ) (ts : List ℕ) (xs ys : List ℤ) (v : ℕ) (knotsBefore : List ℕ) (xsBefore ysBefore : List ℤ)
     (answer : RemoveAnswer) (knotsAfter : List ℕ) (xsAfter ysAfter : List ℤ) : Type 0 where

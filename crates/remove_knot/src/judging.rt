@@ -1,10 +1,10 @@
-// Why a removal is refused for what was handed in: 1 to 7, then 12; and 15.
+// Why a removal is refused for what was handed in: 1 to 7, then 12.
 ghost use mathlib.Core.Path.{_≡_};
 ghost use Prim.Native.Nat.{_<_};
 ghost use lib.Dec.{ltb};
 ghost use lib.ListN.{length};
 ghost use Rattle.grid.specs.Rows.{occurrences};
-ghost use Rattle.remove_knot.specs.Judged.{innerOk, removalNumber, fewerRoomOk};
+ghost use Rattle.remove_knot.specs.Judged.{innerOk, removalNumber};
 
 // A knot, 32 bits wide.
 fn wide(t: u16) -> u32
@@ -56,27 +56,4 @@ pub(crate) fn judge(degree: u32, knots: &[u16], xs: &[i32], ys: &[i32], v: u32) 
         return refusal::NOT_INNER;
     }
     refusal::ACCEPTED
-}
-
-// Whether the lent lists are long enough.
-pub(crate) fn room_ok(
-    knots: &[u16],
-    xs: &[i32],
-    ys: &[i32],
-    room_knots: usize,
-    room_xs: usize,
-    room_ys: usize,
-) -> bool
-    requires { ⌜ 0 < length (now knots) ⌝ }
-    requires { ⌜ 0 < length (now xs) ⌝ }
-    requires { ⌜ 0 < length (now ys) ⌝ }
-    ensures answer { λ r. ⌜ r ≡ fewerRoomOk (now (knots .entry)) (now (xs .entry)) (now (ys .entry)) «room_knots» «room_xs» «room_ys» ⌝ }
-{
-    if room_knots < knots.len() - 1 {
-        return false;
-    }
-    if room_xs < xs.len() - 1 {
-        return false;
-    }
-    ys.len() - 1 <= room_ys
 }

@@ -28,12 +28,9 @@ pub(crate) fn remove_checked(
     if !removal::remove_polygon(m, knots, xs, ys, v, work_knots, work_xs, work_ys) {
         return crate::RemoveAnswer::Refused(refusal::NOT_REMOVABLE);
     }
-    if !crate::judging::room_ok(knots, xs, ys, out_knots.len(), out_xs.len(), out_ys.len()) {
+    if !handing::hand_over(work_knots, work_xs, work_ys, out_knots, out_xs, out_ys) {
         return crate::RemoveAnswer::Refused(refusal::ROOM);
     }
-    copying::copy_knots(work_knots, out_knots);
-    copying::copy_coordinates(work_xs, out_xs);
-    copying::copy_coordinates(work_ys, out_ys);
     crate::RemoveAnswer::Removed(work_xs.len())
 }
 
