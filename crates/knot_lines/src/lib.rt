@@ -1,8 +1,14 @@
-// Inserting, removing and compacting, each with a line of its answer and of the lent lists as they are afterwards.
+// Inserting, removing and compacting, as a line asks that begins with the call (0 insert, 1 remove, 2 compact), the degree, the value
+// and how many places each result list has, each a list of its own. A line is printed of the answer and of the result lists as they are
+// afterwards; they begin with 7 in every place.
 use compact::CompactAnswer;
 use insert_knot::InsertAnswer;
 use remove_knot::RemoveAnswer;
 use run_lines::answer;
+use run_lines::case_name;
+use run_lines::first_coordinates;
+use run_lines::first_knots;
+use run_lines::first_number;
 
 fn inserted(name: &[u8], a: InsertAnswer) {
     match a {
@@ -25,7 +31,7 @@ fn compacted(name: &[u8], a: CompactAnswer) {
     }
 }
 
-pub fn insert(
+fn insert(
     name: &[u8],
     degree: u32,
     ts: &[u16],
@@ -41,7 +47,7 @@ pub fn insert(
     run_lines::lists(new_ts, new_xs, new_ys);
 }
 
-pub fn remove(
+fn remove(
     name: &[u8],
     degree: u32,
     ts: &[u16],
@@ -57,7 +63,7 @@ pub fn remove(
     run_lines::lists(new_ts, new_xs, new_ys);
 }
 
-pub fn compact_all(
+fn compact_all(
     name: &[u8],
     degree: u32,
     ts: &[u16],
@@ -70,4 +76,46 @@ pub fn compact_all(
     let a = compact::compact(degree, ts, xs, ys, new_ts, new_xs, new_ys);
     compacted(name, a);
     run_lines::lists(new_ts, new_xs, new_ys);
+}
+
+// The call that the line asks for.
+fn call(
+    line: &[u8],
+    ts: &[u16],
+    xs: &[i32],
+    ys: &[i32],
+    new_ts: &mut [u16],
+    new_xs: &mut [i32],
+    new_ys: &mut [i32],
+) {
+    let name = case_name(line);
+    let degree = first_number(line, 1);
+    let v = first_number(line, 2);
+    let kind = first_number(line, 0);
+    match kind {
+        0 => insert(name, degree, ts, xs, ys, v, new_ts, new_xs, new_ys),
+        1 => remove(name, degree, ts, xs, ys, v, new_ts, new_xs, new_ys),
+        _ => compact_all(name, degree, ts, xs, ys, new_ts, new_xs, new_ys),
+    }
+}
+
+// The line's jth list is one number: how many places a result list has.
+fn places(line: &[u8], j: usize) -> usize {
+    first_number(line, j) as usize
+}
+
+// The call on a curve.
+pub fn on_curve(line: &[u8], ts: &[u16], xs: &[i32], ys: &[i32]) {
+    let mut new_ts = [7u16; 16];
+    let mut new_xs = [7i32; 16];
+    let mut new_ys = [7i32; 16];
+    call(
+        line,
+        ts,
+        xs,
+        ys,
+        first_knots(&mut new_ts, places(line, 3)),
+        first_coordinates(&mut new_xs, places(line, 4)),
+        first_coordinates(&mut new_ys, places(line, 5)),
+    );
 }

@@ -1,16 +1,24 @@
 // Inserting, removing and compacting run on the worked examples, on repeated knots, below zero, out of range and on lists of
-// exactly enough places, a line of standard input for each case: the call (0 insert, 1 remove, 2 compact), the degree, the knots, x and
-// y of the curve, the value, and how many places each result list has. It prints a line for each, with the lent lists as they are
-// afterwards. Result lists begin with 7 in every place.
-mod small;
-
+// exactly enough places, a line of standard input for each case: what knot_lines asks, then the knots, x and y of the curve.
 use libc::STDIN_FILENO;
+use run_lines::coordinates;
+use run_lines::knots;
+
+fn case(line: &[u8]) {
+    let mut room_ts = [0u16; 16];
+    let mut room_xs = [0i32; 16];
+    let mut room_ys = [0i32; 16];
+    let ts = knots(line, 6, &mut room_ts);
+    let xs = coordinates(line, 7, &mut room_xs);
+    let ys = coordinates(line, 8, &mut room_ys);
+    knot_lines::on_curve(line, ts, xs, ys);
+}
 
 fn run_cases(text: &[u8]) {
     let lines = run_lines::lines(text);
     let mut n = 0;
     while n < lines {
-        small::case(run_lines::line(text, n));
+        case(run_lines::line(text, n));
         n += 1;
     }
 }

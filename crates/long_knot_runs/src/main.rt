@@ -1,40 +1,34 @@
-// Inserting and compacting run on curves of 1,024 points: a line for each.
+// Inserting and compacting run on curves of 1,024 points, a line of standard input for each case: what knot_lines asks, then how many
+// knots there are, the index of the last that is surely 0, how many stand at each value behind it (1 or 3), and the highest. The points rise by
+// one from the origin on.
+use libc::STDIN_FILENO;
+use run_lines::first_knots;
+use run_lines::first_number;
 
-// The knot at k of knots that begin at 0, rise by one after the first `flat`, and end at `most`.
-fn limited(k: usize, flat: usize, most: usize) -> u16 {
+// n, or the multiple of three up to it.
+fn stepped(n: usize, each: usize) -> usize {
+    if each == 3 {
+        return 3 * (n / 3 % 1024);
+    }
+    n
+}
+
+// The knot at k of knots that begin at 0, rise behind `flat` by one after every one or by three after every three, and end at `most`.
+fn limited(k: usize, flat: usize, each: usize, most: usize) -> u16 {
     if k <= flat {
         return 0;
     }
-    if most <= k - flat {
+    let rise = stepped(k - flat, each);
+    if most <= rise {
         return (most % 65536) as u16;
     }
-    ((k - flat) % 65536) as u16
+    (rise % 65536) as u16
 }
 
-fn ramp(ts: &mut [u16], flat: usize, most: usize) {
+fn ramp(ts: &mut [u16], flat: usize, each: usize, most: usize) {
     let mut k = 0;
     while k < ts.len() {
-        ts[k] = limited(k, flat, most);
-        k += 1;
-    }
-}
-
-// The knot at k of knots that begin at 0, rise by three after every three, and end at 1023.
-fn stair(k: usize) -> u16 {
-    if k == 0 {
-        return 0;
-    }
-    let step = 3 * ((k - 1) / 3 % 1024);
-    if 1023 < step {
-        return 1023;
-    }
-    step as u16
-}
-
-fn stairs(ts: &mut [u16]) {
-    let mut k = 0;
-    while k < ts.len() {
-        ts[k] = stair(k);
+        ts[k] = limited(k, flat, each, most);
         k += 1;
     }
 }
@@ -48,78 +42,33 @@ fn rise(ps: &mut [i32]) {
     }
 }
 
-fn insert(name: &[u8], ts: &[u16], ps: &[i32], v: u32) {
-    let mut new_ts = [7u16; 2];
-    let mut new_xs = [7i32; 1];
-    let mut new_ys = [7i32; 1];
-    knot_lines::insert(
-        name,
-        2,
-        ts,
-        ps,
-        ps,
-        v,
-        &mut new_ts,
-        &mut new_xs,
-        &mut new_ys,
-    );
+fn size(line: &[u8], j: usize) -> usize {
+    first_number(line, j) as usize
 }
 
-fn compact(name: &[u8], degree: u32, ts: &[u16], ps: &[i32]) {
-    let mut new_ts = [7u16; 8];
-    let mut new_xs = [7i32; 4];
-    let mut new_ys = [7i32; 4];
-    knot_lines::compact_all(
-        name,
-        degree,
-        ts,
-        ps,
-        ps,
-        &mut new_ts,
-        &mut new_xs,
-        &mut new_ys,
-    );
-}
-
-fn try_full(ts: &mut [u16], ps: &mut [i32]) {
-    ramp(ts, 2, 1022);
+fn on_rooms(line: &[u8], ts: &mut [u16], ps: &mut [i32]) {
+    ramp(ts, size(line, 7), size(line, 8), size(line, 9));
     rise(ps);
-    insert(b"5 into 1024 points", ts, ps, 5);
-    insert(b"the right end into 1024 points", ts, ps, 1022);
+    knot_lines::on_curve(line, ts, ps, ps);
 }
 
-fn full() {
-    let mut ts = [0u16; 1027];
-    let mut ps = [0i32; 1024];
-    try_full(&mut ts, &mut ps);
-}
-
-fn try_line(ts: &mut [u16], ps: &mut [i32]) {
-    ramp(ts, 1, 1023);
-    rise(ps);
-    compact(b"1024 points on a line", 1, ts, ps);
-}
-
-fn line() {
-    let mut ts = [0u16; 1026];
-    let mut ps = [0i32; 1024];
-    try_line(&mut ts, &mut ps);
-}
-
-fn try_joined(ts: &mut [u16], ps: &mut [i32]) {
-    stairs(ts);
-    rise(ps);
-    compact(b"342 joined spline points on a line", 3, ts, ps);
-}
-
-fn joined() {
+fn case(line: &[u8]) {
     let mut ts = [0u16; 1028];
     let mut ps = [0i32; 1024];
-    try_joined(&mut ts, &mut ps);
+    on_rooms(line, first_knots(&mut ts, size(line, 6)), &mut ps);
+}
+
+fn run_cases(text: &[u8]) {
+    let lines = run_lines::lines(text);
+    let mut n = 0;
+    while n < lines {
+        case(run_lines::line(text, n));
+        n += 1;
+    }
 }
 
 fn main() {
-    full();
-    line();
-    joined();
+    let mut input = io::buffer();
+    let n = io::read_full(STDIN_FILENO, &mut input);
+    run_cases(&input[..n]);
 }

@@ -8,10 +8,10 @@ use Rattle.long_knot_runs.proofs.ramp.Statement.{statement}
 use Rattle.long_knot_runs.proofs.ramp.Tie as tie
 
 abbrev Inv-loop : tie.InvT-loop
-Inv-loop ts₀ flat most k₀ ts k = (k ≤ length ts) × (length ts ≡ length ts₀)
+Inv-loop ts₀ flat each most k₀ ts k = (k ≤ length ts) × (length ts ≡ length ts₀)
 
 abbrev μ-loop : tie.MeasureT-loop
-μ-loop ts₀ flat most k₀ ts k = length ts - k
+μ-loop ts₀ flat each most k₀ ts k = length ts - k
 
 loop-holds : tie.Need-loop-holds Inv-loop μ-loop
 loop-holds c = omega arith
