@@ -1,6 +1,6 @@
 // Inserting and compacting run on curves of 1,024 points, a line of standard input for each case: what knot_lines asks, then how many
-// knots there are, the index of the last that is surely 0, how many stand at each value behind it (1 or 3), and the highest. The points rise by
-// one from the origin on.
+// knots there are, the index up to which they are 0, how many stand at each value behind it (1 or 3), and the highest. The points rise
+// by one from the origin on.
 use libc::STDIN_FILENO;
 use run_lines::first_knots;
 use run_lines::first_number;

@@ -32,8 +32,7 @@ fn on_bytes(
     out: &mut [u8],
 ) -> usize {
     let answer = job::read_job(bytes, knots, xs, ys, sides);
-    let at = on_answer(answer, knots, xs, ys, sides, out);
-    answer_bytes::put_bytes(out, at, b"\x00")
+    on_answer(answer, knots, xs, ys, sides, out)
 }
 
 fn with_rooms(bytes: &[u8], out: &mut [u8]) -> usize {
@@ -53,5 +52,6 @@ pub fn told(body: &[u8], out: &mut [u8]) -> usize {
     if body.len() < end {
         return 0;
     }
-    with_rooms(&body[5..end], out)
+    let at = with_rooms(&body[5..end], out);
+    answer_bytes::put_bytes(out, at, b"\x00")
 }
