@@ -8,6 +8,7 @@ use lib.ListN.{length, getD}
 use Rattle.grid.specs.Rows.{firstKnot, lastKnot, knotOrderOk}
 use Rattle.grid.specs.Check.{Passes}
 use Rattle.grid.proofs.CheckLaws.{TestsPass, passes-tests, check-accepts}
+use Rattle.grid.proofs.SizeLaws.{sizes-of-rows}
 use Rattle.grid.proofs.CountLaws.{degree-of-test, points-of-test, knots-of-test}
 use Rattle.checked.specs.Checked.{Checked}
 use Rattle.checked.proofs.RowLaws.{degree-passes, points-pass, knots-pass, order-passes, ends-pass, repeats-pass, range-passes}
@@ -32,12 +33,7 @@ module _ (m : ℕ) (ts : List ℕ) (xs ys : List ℤ) where
       let differ = ends-differ m ts (p .ends) in
       let between = rising 0 (length ts - 1) (omega arith) (omega arith) in
       record {
-        degreeLow = d .0;
-        degreeHigh = d .1;
-        same = n .0;
-        enough = n .1;
-        most = n .2;
-        knots = k;
+        sizes = sizes-of-rows m ts xs ys (p .degree) (p .points) (p .knots);
         rising = rising;
         largest = order-largest 0 ts (p .order);
         firsts = firsts;
@@ -54,17 +50,18 @@ module _ (m : ℕ) (ts : List ℕ) (xs ys : List ℤ) where
 
   pub passes-of-checked : Checked m ts xs ys → Passes m ts xs ys
   passes-of-checked c =
+      let z = c .sizes in
       let lows = c .firsts m (omega arith) in
-      let highs = c .lasts (length xs) (omega arith) (omega (arith, c .knots)) in
+      let highs = c .lasts (length xs) (omega arith) (omega (arith, z .knots)) in
       sym
       (check-accepts m ts xs ys
-      (degree-passes m (c .degreeLow) (c .degreeHigh))
-      (points-pass m xs ys (c .same) (c .enough) (c .most))
-      (knots-pass m ts xs (c .knots))
+      (degree-passes m (z .degree-least) (z .degree-most))
+      (points-pass m xs ys (sym (z .as-many)) (z .enough) (z .most))
+      (knots-pass m ts xs (z .knots))
       (order-passes ts (c .rising, c .largest))
       (ends-pass m ts (
         (λ k i l. c .firsts k (omega arith)),
-        (λ k i l. c .lasts k (omega (arith, c .knots)) i),
+        (λ k i l. c .lasts k (omega (arith, z .knots)) i),
         (λ e. omega (arith, lows, highs, e, c .domain)),
       ))
       (repeats-pass m ts (c .inner, c .outer))

@@ -5,8 +5,10 @@ use Prim.Native.Nat.{ℕ, _+_, _≤_, _<_}
 use lib.IntN.{ℤ, pos, negℤ}
 use lib.ListN.{length, getD}
 use lib.Signed.{_≤ℤ_}
-use Rattle.grid.specs.Limits.{pointsMost, knotMost, coordinateMost}
+use Rattle.curve.specs.Lists.{NeverFall}
+use Rattle.grid.specs.Limits.{knotMost, coordinateMost}
 use Rattle.grid.specs.Rows.{firstKnot, lastKnot, occurrences}
+use Rattle.grid.specs.Sizes.{Sizes}
 
 -- z lies on the grid
 pub record OnGrid (z : ℤ) : Type 0 where
@@ -15,14 +17,9 @@ pub record OnGrid (z : ℤ) : Type 0 where
 
 -- degree m, knots ts, coordinates xs and ys: t_m is `getD ts m 0`, and t_{n+1} is `getD ts (length xs) 0`
 pub record Checked (m : ℕ) (ts : List ℕ) (xs ys : List ℤ) : Type 0 where
-  pub degreeLow : 1 ≤ m
-  pub degreeHigh : m ≤ 3
-  pub same : length xs ≡ length ys
-  pub enough : m + 1 ≤ length xs
-  pub most : length xs ≤ pointsMost
-  pub knots : length ts ≡ length xs + m + 1
+  pub sizes : Sizes m ts xs ys
   -- knots never fall, and none is above the largest
-  pub rising : (a b : ℕ) → a ≤ b → b < length ts → getD ts a 0 ≤ getD ts b 0
+  pub rising : NeverFall ts
   pub largest : (a : ℕ) → a < length ts → getD ts a 0 ≤ knotMost
   -- the first m+1 knots are equal, the last m+1 are equal, and the domain is not empty
   pub firsts : (a : ℕ) → a ≤ m → getD ts a 0 ≡ firstKnot ts

@@ -59,10 +59,10 @@ fills v (suc k) (t ∷ ts) h each =
 pub repeats-least : (m : ℕ) (c : Curve) → Passes m (c .knots) (c .xs) (c .ys) → getD (c .knots) m 0 < getD (c .knots) (m + 1) 0
 repeats-least m c passes =
     let k = checked-of-passes m (c .knots) (c .xs) (c .ys) passes in
-    let up = k .rising m (m + 1) (omega arith) (omega (arith, k .knots, k .enough)) in
+    let up = k .rising m (m + 1) (omega arith) (omega (arith, k .sizes .knots, k .sizes .enough)) in
     either (getD (c .knots) m 0) (getD (c .knots) (m + 1) 0) (λ h. h)
     (λ h.
-    let many = fills (firstKnot (c .knots)) (m + 2) (c .knots) (omega (arith, k .knots, k .enough))
+    let many = fills (firstKnot (c .knots)) (m + 2) (c .knots) (omega (arith, k .sizes .knots, k .sizes .enough))
     (λ j l. either j (m + 1) (λ left. k .firsts j (omega arith)) (λ right.
     let at : j ≡ m + 1 = omega arith in
     rw at (level up h ∙ k .firsts m (omega arith)))) in

@@ -53,16 +53,16 @@ pub accepted-within :
 accepted-within m ts xs ys t i h e =
     let passed = parameter-accepted m ts xs ys t h in
     let curve = checked-of-passes m ts xs ys (passed .0) in
-    let enough : m + 1 ≤ length xs = curve .enough in
-    let knots : length ts ≡ length xs + m + 1 = curve .knots in
+    let enough : m + 1 ≤ length xs = curve .sizes .enough in
+    let knots : length ts ≡ length xs + m + 1 = curve .sizes .knots in
     let span : (m ≤ i) × (i ≤ length xs - 1) = rw e (spanOf-within ts m (length xs - 1) t 1 (omega arith)) in
     let last : length xs - 1 + 1 ≡ length xs = omega arith in
     record {
-      least = curve .degreeLow;
-      most = curve .degreeHigh;
+      least = curve .sizes .degree-least;
+      most = curve .sizes .degree-most;
       first = span .0;
       point = omega arith;
-      alike = sym (curve .same);
+      alike = curve .sizes .as-many;
       knot = omega arith;
       top = simp (mul-one, last) at (inDomain-says ts m (length xs - 1) t 1 (passed .1) .1);
     }
@@ -74,6 +74,6 @@ pub accepted-span :
 accepted-span m ts xs ys t h =
     let passed = parameter-accepted m ts xs ys t h in
     let curve = checked-of-passes m ts xs ys (passed .0) in
-    let enough : m + 1 ≤ length xs = curve .enough in
+    let enough : m + 1 ≤ length xs = curve .sizes .enough in
     let last : length xs - 1 + 1 ≡ length xs = omega arith in
     spanOf-is ts m (length xs - 1) t 1 (omega arith) (inDomain-says ts m (length xs - 1) t 1 (passed .1) .0) (rw last (curve .domain))

@@ -1,9 +1,13 @@
 -- Every limit of the grid and of its files, by a name, once.
-use Prim.Native.Nat.{ℕ}
+use Prim.Native.Nat.{ℕ, _+_, _*_}
 
 -- "The curve on the grid": points of a curve
 abbrev pub pointsMost : ℕ
 pointsMost = 1024
+
+-- ... and its knots, at the highest degree
+abbrev pub knotsMost : ℕ
+knotsMost = pointsMost + 4
 
 -- "The curve on the grid": the largest knot
 abbrev pub knotMost : ℕ
@@ -34,3 +38,18 @@ clampBytes = 16
 
 abbrev pub clampsMost : ℕ
 clampsMost = 64
+
+-- ... and the sides of all of them, four a clamp
+abbrev pub sidesMost : ℕ
+sidesMost = 4 * clampsMost
+
+-- "The record on disk": a tag and a length stand in front of a field's contents
+abbrev pub headBytes : ℕ
+headBytes = 3
+
+-- the longest record: four fields; and the longest job
+abbrev pub recordMost : ℕ
+recordMost = 4 * headBytes + (1 + knotBytesMost + coordinateBytesMost + coordinateBytesMost)
+
+abbrev pub jobMost : ℕ
+jobMost = recordMost + clampsMost * (headBytes + clampBytes)

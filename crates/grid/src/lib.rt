@@ -9,13 +9,37 @@ mod repeats;
 ghost use mathlib.Core.Path.{_≡_};
 ghost use Rattle.grid.specs.Check.{checkNumber};
 pub use range::on_grid;
+pub use range::on_grid_wide;
+pub use range::range_ok;
 pub use range::sides_ok;
 
 pub const POINTS_MOST: usize = 1024;
 
+pub const KNOTS_MOST: usize = POINTS_MOST + 4;
+
 pub const KNOT_MOST: u16 = 16383;
 
 pub const COORDINATE_MOST: i32 = 262144;
+
+pub const SPLINE_POINTS_LEAST: usize = 2;
+
+pub const SPLINE_POINTS_MOST: usize = 342;
+
+pub const KNOT_BYTES_MOST: usize = 2056;
+
+pub const COORDINATE_BYTES_MOST: usize = 4096;
+
+pub const CLAMP_BYTES: usize = 16;
+
+pub const CLAMPS_MOST: usize = 64;
+
+pub const SIDES_MOST: usize = 4 * CLAMPS_MOST;
+
+pub const HEAD_BYTES: usize = 3;
+
+pub const RECORD_MOST: usize = 4 * HEAD_BYTES + 1 + KNOT_BYTES_MOST + 2 * COORDINATE_BYTES_MOST;
+
+pub const JOB_MOST: usize = RECORD_MOST + CLAMPS_MOST * (HEAD_BYTES + CLAMP_BYTES);
 
 // 0, or the lowest of the numbers 1 to 7 that applies.
 pub fn check(degree: u32, knots: &[u16], xs: &[i32], ys: &[i32]) -> u32

@@ -12,6 +12,16 @@ pub fn on_grid(z: i32) -> bool
     false
 }
 
+// The same for a number that may be too wide for a coordinate.
+pub fn on_grid_wide(z: i64) -> bool
+    ensures answer { λ r. ⌜ r ≡ onGrid z ⌝ }
+{
+    if -(crate::COORDINATE_MOST as i64) <= z {
+        return z <= (crate::COORDINATE_MOST as i64);
+    }
+    false
+}
+
 // Neither low side lies above its high side, and all four are on the grid.
 pub fn sides_ok(low_x: i32, high_x: i32, low_y: i32, high_y: i32) -> bool
     ensures answer { λ r. ⌜ r ≡ rectangleOk «low_x» «high_x» «low_y» «high_y» ⌝ }
@@ -34,7 +44,8 @@ pub fn sides_ok(low_x: i32, high_x: i32, low_y: i32, high_y: i32) -> bool
     on_grid(high_y)
 }
 
-pub(crate) fn range_ok(xs: &[i32], ys: &[i32]) -> bool
+// Every entry of both lists is on the grid.
+pub fn range_ok(xs: &[i32], ys: &[i32]) -> bool
     ensures answer { λ r. ⌜ r ≡ rangeOk (now (xs .entry)) (now (ys .entry)) ⌝ }
 {
     if !all_on_grid(xs) {

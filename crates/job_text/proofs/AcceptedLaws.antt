@@ -49,13 +49,13 @@ module _ (m : ℕ) (ts : List ℕ) (xs ys : List ℤ) (cs : List Clamp) (passed 
   pub curve-told : curvePart m (length xs) ts textPlaces ≡ curveLine m (length xs) (spanCount m ts (length xs))
   curve-told =
       let f = facts in
-      curvePart-text m (length xs) ts textPlaces (omega (arith, f .enough)) (omega (arith, f .knots)) (f .most) (omega arith)
+      curvePart-text m (length xs) ts textPlaces (omega (arith, f .sizes .enough)) (omega (arith, f .sizes .knots)) (f .sizes .most) (omega arith)
 
   -- the list call refuses none of the job's clamps
   listed-all : (k : ℕ) → k < length cs → listRefusal m ts xs ys (clampAt (allSides cs) k) spanPlaces spanPlaces ≡ accepted
   listed-all k h =
       let f = facts in
-      let few-spans : spanCount m ts (length xs) ≤ spanPlaces = omega (arith, spanCount-most m ts (length xs), f .most, f .degreeLow) in
+      let few-spans : spanCount m ts (length xs) ≤ spanPlaces = omega (arith, spanCount-most m ts (length xs), f .sizes .most, f .sizes .degree-least) in
       ap (λ (r : Rectangle). listRefusal m ts xs ys r spanPlaces spanPlaces) (clamp-in-sides cs k h)
       ∙ refusal-none m ts xs ys (rectangleOf (getD cs k noClamp)) spanPlaces spanPlaces passed (clamp-passes cs k sound h) few-spans few-spans
 
@@ -64,7 +64,7 @@ module _ (m : ℕ) (ts : List ℕ) (xs ys : List ℤ) (cs : List Clamp) (passed 
   unfolding lowKnots
   lows-few k =
       let f = facts in
-      omega (arith, length-map (metBy (clampAt (allSides cs) k) m ts xs ys) (λ (i : ℕ). getD ts i 0), met-most (clampAt (allSides cs) k) m ts xs ys, f .most, f .degreeLow)
+      omega (arith, length-map (metBy (clampAt (allSides cs) k) m ts xs ys) (λ (i : ℕ). getD ts i 0), met-most (clampAt (allSides cs) k) m ts xs ys, f .sizes .most, f .sizes .degree-least)
 
   highs-same : (k : ℕ) → length (highsMet m ts xs ys (allSides cs) k) ≡ length (lowsMet m ts xs ys (allSides cs) k)
   unfolding lowKnots highKnots

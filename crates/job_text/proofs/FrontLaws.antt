@@ -80,9 +80,9 @@ from-lists bytes knots across up around m points count knots₁ across₁ up₁ 
       sameCount = a .3;
       passed = c .0;
       sound = unless-accepted (clampsOk (w .cs)) 13 (unless (jobRoomOk (w .ts) (w .xs) (w .ys) (w .cs) knots across up around) roomRefused accepted) (c .1) .0;
-      onKnots = front-over (w .ts) knots knots₁ (points + m + 1) (omega (arith, f .knots, a .1, a .2)) (rw (a .0) at (r .onKnots));
+      onKnots = front-over (w .ts) knots knots₁ (points + m + 1) (omega (arith, f .sizes .knots, a .1, a .2)) (rw (a .0) at (r .onKnots));
       onX = front-over (w .xs) across across₁ points (a .2) (rw (a .0) at (r .onX));
-      onY = front-over (w .ys) up up₁ points (a .2 ∙ f .same) (rw (a .0) at (r .onY));
+      onY = front-over (w .ys) up up₁ points (a .2 ∙ sym (f .sizes .as-many)) (rw (a .0) at (r .onY));
       onClamps = front-over (allSides (w .cs)) around around₁ (4 * count) (omega (arith, sides-length (w .cs), a .3)) (rw (a .0) at (r .onClamps));
     }
 

@@ -111,12 +111,14 @@ module _ (ss : List ℕ) (xs ys dxs dys : List ℤ) (knotPlaces xPlaces yPlaces 
       let ks = knots-length ss xs dxs some in
       let grid = points-on-grid ss xs ys dxs dys (facts .range-ok) in
       record {
-        degreeLow = omega arith;
-        degreeHigh = omega arith;
-        same = us ∙ sym vs;
-        enough = omega (arith, us, some);
-        most = omega (arith, us, joined-rising .most);
-        knots = omega (arith, us, ks, some);
+        sizes = record {
+          degree-least = omega arith;
+          degree-most = omega arith;
+          as-many = vs ∙ sym us;
+          enough = omega (arith, us, some);
+          most = omega (arith, us, joined-rising .most);
+          knots = omega (arith, us, ks, some);
+        };
         rising = order-rising (joinedKnots innerKnots (pieces ss xs dxs)) ordered;
         largest = order-largest 0 (joinedKnots innerKnots (pieces ss xs dxs)) ordered;
         firsts = starts ss xs dxs joined-rising;

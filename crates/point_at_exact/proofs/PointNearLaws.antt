@@ -39,16 +39,16 @@ pub axis-near : (m : ℕ) (ts : List ℕ) (xs ys ps : List ℤ) (t : ℕ) → Ch
 axis-near m ts xs ys ps t c same grid inside =
     let i = spanOf ts m (length xs - 1) t 1 in
     let carried = domain-carried m ts xs ys c ps same t 1 (lit≤ tt) inside in
-    coordinate-near ts ps m i t (c .degreeHigh) carried
-    (λ k l. le-trans (c .largest k (omega (arith, c .knots, carried .inside, same))) (lit≤ tt))
+    coordinate-near ts ps m i t (c .sizes .degree-most) carried
+    (λ k l. le-trans (c .largest k (omega (arith, c .sizes .knots, carried .inside, same))) (lit≤ tt))
     (λ j l h. on-grid-size (getD ps j (pos 0)) (grid j (omega (arith, carried .inside))))
 
 pub checked-near : (m : ℕ) (ts : List ℕ) (xs ys : List ℤ) (t : ℕ) → Checked m ts xs ys → inDomain ts m (length xs - 1) t 1 ≡ true → PointNear m ts xs ys t
 checked-near m ts xs ys t c inside = record {
   x = axis-near m ts xs ys xs t c refl (c .gridX) inside;
   y =
-      subst (λ (n : ℕ). NearExact (coordinateOf m ts ys (spanOf ts m (length xs - 1) t 1) t) (exactCoordinate ts ys m (spanOf ts m (n - 1) t 1) t 1)) (c .same)
-      (axis-near m ts xs ys ys t c (sym (c .same)) (c .gridY) inside);
+      subst (λ (n : ℕ). NearExact (coordinateOf m ts ys (spanOf ts m (length xs - 1) t 1) t) (exactCoordinate ts ys m (spanOf ts m (n - 1) t 1) t 1)) (sym (c .sizes .as-many))
+      (axis-near m ts xs ys ys t c (c .sizes .as-many) (c .gridY) inside);
 }
 
 -- nothing is refused inside the domain of a curve that passes

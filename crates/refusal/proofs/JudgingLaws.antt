@@ -1,11 +1,11 @@
 -- What an answer says of the test that was judged first.
-use mathlib.Core.Bool.{Bool, true, false, not, cond}
+use mathlib.Core.Bool.{Bool, true, false, not, cond, _&&_, and-eq-true-iff}
 use mathlib.Core.Path.{_≡_, refl, sym, _∙_}
 use Prim.Native.Nat.{ℕ, suc, _≤_}
 use lib.Dec.{eqb, eqb·suc-zero}
-use borrow.Author.Tests.{not-true, not-false}
+use borrow.Author.Tests.{not-true, not-false, ne-eqb}
 use native.Mathlib.Omega.{arith}
-use Rattle.refusal.specs.Judging.{unless}
+use Rattle.refusal.specs.Judging.{unless, answered}
 
 -- number 0: the first test passed, and nothing after it was refused
 pub unless-accepted : (ok : Bool) (n : ℕ) (next : ℕ) → unless ok (suc n) next ≡ 0 → (ok ≡ true) × (next ≡ 0)
@@ -30,3 +30,11 @@ unless-split false n next whole alone h = rw (eqb·suc-zero n)
 pub unless-most : (ok : Bool) (n next most : ℕ) → n ≤ most → next ≤ most → unless ok n next ≤ most
 unless-most true n next most h k = k
 unless-most false n next most h k = h
+
+-- two tests that both pass, each for itself
+pub both : (a b : Bool) → (a && b) ≡ true → (a ≡ true) × (b ≡ true)
+both a b = and-eq-true-iff a b .0
+
+-- a refusal answers its number
+pub answered-refused : {B A : Type 0} (done : B → A) (refused : ℕ → A) (number : ℕ) (value : B) → (number ≡ 0 → ⊥) → answered done refused number value ≡ refused number
+answered-refused done refused number value h = rw (ne-eqb number 0 h)

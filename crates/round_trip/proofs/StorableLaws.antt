@@ -39,11 +39,11 @@ pub passes-storable : (m : ℕ) (ts : List ℕ) (xs ys : List ℤ) → Passes m 
 passes-storable m ts xs ys p =
     let c : Checked m ts xs ys = checked-of-passes m ts xs ys p in
     record {
-      degree = omega (arith, c .degreeHigh);
+      degree = omega (arith, c .sizes .degree-most);
       knots = knots-fit ts (c .largest);
       onX = all-fit xs (c .gridX);
       onY = all-fit ys (c .gridY);
-      knotRoom = omega (arith, length-knots ts, c .knots, c .most, c .degreeHigh);
-      xRoom = omega (arith, length-coordinates xs, c .most);
-      yRoom = omega (arith, length-coordinates ys, c .most, c .same);
+      knotRoom = omega (arith, length-knots ts, c .sizes .knots, c .sizes .most, c .sizes .degree-most);
+      xRoom = omega (arith, length-coordinates xs, c .sizes .most);
+      yRoom = omega (arith, length-coordinates ys, c .sizes .most, c .sizes .as-many);
     }

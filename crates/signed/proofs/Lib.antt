@@ -10,3 +10,4 @@ pub mod ScaleLaws
 pub mod DivisionLaws
 pub mod RemainderLaws
 pub mod ReadLaws
+pub mod DifferenceLaws

@@ -1,6 +1,6 @@
-// Casts of coordinates and knots to a width in which sums and products of them fit. The laws on signed numbers stand in proofs/.
+// Casts and products of coordinates and knots, in a width in which sums of them fit. The laws on signed numbers stand in proofs/.
 ghost use mathlib.Core.Path.{_≡_};
-ghost use lib.IntN.{pos};
+ghost use lib.IntN.{pos, _*ℤ_};
 
 // The same number, 64 bits wide.
 pub fn wide(z: i32) -> i64
@@ -9,9 +9,9 @@ pub fn wide(z: i32) -> i64
     z as i64
 }
 
-// A knot as a signed number.
-pub fn wide_knot(t: u16) -> i64
-    ensures answer { λ r. ⌜ r ≡ pos t ⌝ }
+// A knot's 16 bits times a coordinate's 32: at most 2^47 either way, so neither the product nor the sum of two wraps.
+pub fn product(a: u16, z: i32) -> i64
+    ensures answer { λ r. ⌜ r ≡ pos a *ℤ z ⌝ }
 {
-    t as i64
+    (a as i64) * (z as i64)
 }

@@ -2,9 +2,10 @@
 -- a whole parameter has q = 1. `ts` are the knots, `m` the degree, `n` the last point's index. Nothing here asks for clamped ends.
 use mathlib.Core.Bool.{Bool, cond, _&&_, _||_}
 use mathlib.Core.List.{List}
-use Prim.Native.Nat.{ℕ, zero, suc, _+_, _*_, _≤_, _<_}
+use Prim.Native.Nat.{ℕ, zero, suc, _+_, _-_, _*_, _≤_, _<_}
 use lib.Dec.{leb, ltb}
-use lib.ListN.{getD}
+use lib.IntN.{ℤ}
+use lib.ListN.{getD, take, drop}
 
 -- the span i may hold p/q: t_i ≤ p/q, and t_i < t_{i+1}, so the span is not empty
 abbrev pub startsAt : List ℕ → ℕ → ℕ → ℕ → Bool
@@ -26,3 +27,11 @@ spanOf ts m (suc n) p q = let lower = spanOf ts m n p q in cond (leb (suc n) m |
 -- p/q lies in the domain: t_m ≤ p/q ≤ t_{n+1}
 unfoldable pub inDomain : List ℕ → ℕ → ℕ → ℕ → ℕ → Bool
 inDomain ts m n p q = leb (getD ts m 0 * q) p && leb p (getD ts (n + 1) 0 * q)
+
+-- v lies strictly inside the domain of a curve of `count` points: t_m < v < t_{n+1}
+unfoldable pub strictlyInside : List ℕ → ℕ → ℕ → ℕ → Bool
+strictlyInside ts m count v = ltb (getD ts m 0) v && ltb v (getD ts count 0)
+
+-- the m+1 coordinates of one axis that carry the span i: P_{i-m} to P_i
+abbrev pub carryingOf : ℕ → ℕ → List ℤ → List ℤ
+carryingOf m i ps = take (m + 1) (drop (i - m) ps)

@@ -1,7 +1,7 @@
 // The span that holds a whole parameter, found by walking the spans from the right; and whether the domain holds it.
 ghost use mathlib.Core.Path.{_≡_};
 ghost use lib.ListN.{getD};
-ghost use Rattle.span.specs.Span.{startsAt, spanOf, inDomain};
+ghost use Rattle.span.specs.Span.{startsAt, spanOf, inDomain, strictlyInside};
 
 // Whether knot i is at most t and below the knot after it. Knots that are not there count as 0, so no span begins at them.
 fn starts_at(knots: &[u16], i: usize, t: u32) -> bool
@@ -35,7 +35,7 @@ pub fn span_of(knots: &[u16], degree: usize, last: usize, t: u32) -> usize
 }
 
 // Knot i, or 0 where there is none.
-fn knot_at(knots: &[u16], i: usize) -> u32
+pub fn knot_at(knots: &[u16], i: usize) -> u32
     ensures answer { λ r. ⌜ r ≡ getD (now (knots .entry)) i 0 ⌝ }
 {
     if knots.len() <= i {
@@ -55,4 +55,14 @@ pub fn in_domain(knots: &[u16], degree: usize, last: usize, t: u32) -> bool
         return t <= 0;
     }
     t <= knot_at(knots, last + 1)
+}
+
+// Whether v lies strictly between knot `degree` and the knot after the last of `count` points.
+pub fn strictly_inside(knots: &[u16], degree: usize, count: usize, v: u32) -> bool
+    ensures answer { λ r. ⌜ r ≡ strictlyInside (now (knots .entry)) degree count v ⌝ }
+{
+    if v <= knot_at(knots, degree) {
+        return false;
+    }
+    v < knot_at(knots, count)
 }

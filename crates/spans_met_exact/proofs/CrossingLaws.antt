@@ -39,7 +39,7 @@ module _ (m : ℕ) (ts : List ℕ) (xs ys : List ℤ) (clamp : Rectangle) (c : C
   crossing-meets hit =
       rw (
         exact-meets ts xs m (spanOf ts m (length xs - 1) p q) p q (domain-carried m ts xs ys c xs refl p q above inside) (clamp .«low_x») (clamp .«high_x») (hit .x .above) (hit .x .under),
-        exact-meets ts ys m (spanOf ts m (length xs - 1) p q) p q (domain-carried m ts xs ys c ys (sym (c .same)) p q above inside) (clamp .«low_y») (clamp .«high_y») (rw (← c .same) at (hit .y .above)) (rw (← c .same) at (hit .y .under)),
+        exact-meets ts ys m (spanOf ts m (length xs - 1) p q) p q (domain-carried m ts xs ys c ys (c .sizes .as-many) p q above inside) (clamp .«low_y») (clamp .«high_y») (rw (c .sizes .as-many) at (hit .y .above)) (rw (c .sizes .as-many) at (hit .y .under)),
       )
 
   -- so that span is listed
@@ -47,7 +47,7 @@ module _ (m : ℕ) (ts : List ℕ) (xs ys : List ℤ) (clamp : Rectangle) (c : C
   unfolding spansMet
   crossing-listed hit =
       let s = domain-span m ts xs ys c p q inside in
-      keep-has (λ i. nonEmpty ts i && boxMeets (clamp .«low_x») (clamp .«high_x») (clamp .«low_y») (clamp .«high_y») m xs ys i) m (length xs - m) (spanOf ts m (length xs - 1) p q) (s .from) (omega (arith, s .to, c .enough)) (rw (lt-ltb _ _ (s .wide)) (crossing-meets hit))
+      keep-has (λ i. nonEmpty ts i && boxMeets (clamp .«low_x») (clamp .«high_x») (clamp .«low_y») (clamp .«high_y») m xs ys i) m (length xs - m) (spanOf ts m (length xs - 1) p q) (s .from) (omega (arith, s .to, c .sizes .enough)) (rw (lt-ltb _ _ (s .wide)) (crossing-meets hit))
 
   -- and its two knots hold the parameter
   crossing-reported : InClamp clamp m ts xs ys p q → (k : ℕ) × ReportedAt clamp m ts xs ys p q k

@@ -22,7 +22,7 @@ sub-in-domain : tie.Need-sub-in-domain
 sub-in-domain c =
     let x = c .before .before .before .args in
     let passes = sym (c .before .check .ensures) ∙ c .if1 .left in
-    omega (arith, checked-of-passes (x .degree) (now (x .knots)) (now (x .xs)) (now (x .ys)) passes .enough)
+    omega (arith, checked-of-passes (x .degree) (now (x .knots)) (now (x .xs)) (now (x .ys)) passes .sizes .enough)
 
 in-domain-requires : tie.Need-in-domain-requires
 in-domain-requires c κs = search needs
