@@ -31,7 +31,7 @@ def told(cases, fault):
     number = word[len("case ") :]
     if word.startswith("case ") and number.isdigit() and 1 <= int(number) <= len(cases):
         case = cases[int(number) - 1]
-        return "%s (%s), number %s:%s" % (case.name, case.call, number, rest)
+        return "%s (%s):%s" % (case.name, case.call, rest)
     return fault
 
 
@@ -56,7 +56,7 @@ def comparison_is_blind(cases):
             wrong = bytearray(answers[at])
             wrong[place] ^= 1
             differs = first_difference(cases, b"".join(answers[:at] + [bytes(wrong)] + answers[at + 1 :]))
-            if not differs or not differs.startswith("%s (%s), number %d:" % (cases[at].name, call, at + 1)):
+            if not differs or not differs.startswith("%s (%s): " % (cases[at].name, call)):
                 yield "a changed byte %d of an answer of %s is told as %r" % (place, call, differs)
     if not first_difference(cases, b"".join(answers[:-1])) or not first_difference(cases, b"".join(answers) + b"\0"):
         yield "a lost answer or an added byte is not told"

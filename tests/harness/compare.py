@@ -9,7 +9,7 @@ def in_words(name, got, right):
             if one != other:
                 return "%s holds %r at entry %d, and %r is right" % (name, one, k, other)
         return "%s has %d entries, and %d are right" % (name, len(got), len(right))
-    return "the %s is %r, and %r is right" % (name, got, right)
+    return "%s is %r, and %r is right" % (name, got, right)
 
 
 def difference(case, answer):
@@ -29,13 +29,13 @@ def first_difference(cases, answers):
     if answers == b"".join(case.answer for case in cases):
         return None
     reader = Reader(answers)
-    for number, case in enumerate(cases, 1):
+    for case in cases:
         start = reader.at
         try:
             read_answer(case, reader)
             answer = answers[start : reader.at]
         except Broken:
-            return "%s (%s), number %d: its answer is missing or cut short" % (case.name, case.call, number)
+            return "%s (%s): its answer is missing or cut short" % (case.name, case.call)
         if answer != case.answer:
-            return "%s (%s), number %d: %s" % (case.name, case.call, number, difference(case, answer))
+            return "%s (%s): %s" % (case.name, case.call, difference(case, answer))
     return "there are bytes behind the last answer"

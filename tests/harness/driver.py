@@ -13,7 +13,7 @@ from .shapes import case_bytes  # noqa: E402
 
 SOURCES = sorted((TOP / "tests" / "driver").glob("*.c"))
 BUILT = TOP / "target" / "c" / "driver"
-TIMEOUT = 120
+TIMEOUT = 60
 
 
 class Failed(Exception):
@@ -28,8 +28,10 @@ def build():
 
 
 def run(word, cases=()):
-    """The driver's exit status, what it wrote, and the faults it told, a line for each."""
-    ended = subprocess.run(
-        [*program.command(BUILT), word], input=case_bytes(cases), stdout=subprocess.PIPE, stderr=subprocess.PIPE, timeout=TIMEOUT
-    )
+    """The driver's exit status, what it wrote, and the faults it told, a line for each. A call that does not come back is a fault too."""
+    words = [*program.command(BUILT), word]
+    try:
+        ended = subprocess.run(words, input=case_bytes(cases), stdout=subprocess.PIPE, stderr=subprocess.PIPE, timeout=TIMEOUT)
+    except subprocess.TimeoutExpired as late:
+        return 1, late.stdout or b"", ["the driver did not end within %d s" % TIMEOUT]
     return ended.returncode, ended.stdout, ended.stderr.decode("utf-8", "replace").splitlines()

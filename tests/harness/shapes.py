@@ -134,17 +134,17 @@ def read_answer(case, reader):
     """What the next answer says, as pairs of a name and a value."""
     shape = SHAPES[case.call]
     number = reader.number()
-    told = [("number of refusal", number)]
+    told = [("the number of refusal", number)]
     told += [(name, reader.value(kind)) for name, kind in (() if number else shape.values) + shape.always]
     told += [(name, reader.numbers(kind, count)) for (name, kind), count in zip(shape.lists, case.places)]
     return told
 
 
 def read_cases(cases, answers):
-    """All cases of a file with their answers from another."""
+    """All cases of tests/vectors with their answers."""
     from_cases, from_answers, read = Reader(cases), Reader(answers), []
     while from_cases.more():
-        case = read_case("case %d" % (len(read) + 1), from_cases.take(from_cases.number()))
+        case = read_case("case %d of tests/vectors" % (len(read) + 1), from_cases.take(from_cases.number()))
         start = from_answers.at
         read_answer(case, from_answers)
         read.append(case._replace(answer=answers[start : from_answers.at]))

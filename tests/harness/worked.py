@@ -106,7 +106,7 @@ def case_of(name, text, curves):
     if call not in SHAPES or not equals:
         raise Unreadable("there is no call %r, or no answer" % call)
     given, places = arguments_of(call, arguments, curves)
-    return Case(name, call, body_of(call, given, places), places, answer_from(call, answer, places))
+    return Case("%r of tests/worked.txt" % name, call, body_of(call, given, places), places, answer_from(call, answer, places))
 
 
 def blocks(text):

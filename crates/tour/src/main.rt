@@ -9,14 +9,14 @@ fn text(t: &[u8]) {
     io::write_all(STDOUT_FILENO, t);
 }
 
-fn number(n: u64) {
+// A word and a number.
+fn told(what: &[u8], n: u64) {
+    text(what);
     io::print_decimal(STDOUT_FILENO, n);
 }
 
-fn told(name: &[u8], what: &[u8], n: u64) {
-    text(name);
-    text(what);
-    number(n);
+fn spaced(n: u64) {
+    told(b" ", n);
 }
 
 fn bits(x: f64) {
@@ -30,61 +30,57 @@ fn bits(x: f64) {
 // A coordinate of the worked curves: none is below zero.
 fn whole(z: i32) {
     if z < 0 {
-        text(b"below 0");
+        text(b" below 0");
         return;
     }
-    number(z as u64);
+    spaced(z as u64);
 }
 
-fn coordinates(name: &[u8], zs: &[i32]) {
-    text(name);
+fn coordinates(zs: &[i32]) {
     let mut k = 0;
     while k < zs.len() {
-        text(b" ");
         whole(zs[k]);
         k += 1;
     }
 }
 
+fn place(x: f64, y: f64) {
+    text(b" x ");
+    bits(x);
+    text(b" y ");
+    bits(y);
+}
+
 // An enum answer with a struct inside.
-fn point(name: &[u8], degree: u32, knots: &[u16], xs: &[i32], ys: &[i32], t: u32) {
+fn point(degree: u32, knots: &[u16], xs: &[i32], ys: &[i32], t: u32) {
     let answer = point_at::point_at(degree, knots, xs, ys, t);
     match answer {
-        PointAnswer::At(place) => {
-            text(name);
-            text(b" ");
-            bits(place.x);
-            text(b" ");
-            bits(place.y);
-        }
-        PointAnswer::Refused(n) => told(name, b" refused ", n as u64),
+        PointAnswer::At(p) => place(p.x, p.y),
+        PointAnswer::Refused(n) => told(b" refused ", n as u64),
     }
-    text(b"\n");
 }
 
 // A part of one of two lent lists, and a lent number.
-fn carried<'a>(
-    name: &[u8],
-    degree: u32,
-    knots: &[u16],
-    xs: &'a [i32],
-    ys: &'a [i32],
-    t: u32,
-    axis: Axis,
-) {
+fn carried<'a>(degree: u32, knots: &[u16], xs: &'a [i32], ys: &'a [i32], t: u32, axis: Axis) {
     let mut refusal = 99;
     let part = carrying::carrying(degree, knots, xs, ys, t, axis, &mut refusal);
-    coordinates(name, part);
-    told(b", refusal ", b"", refusal as u64);
-    text(b"\n");
+    coordinates(part);
+    told(b", refusal ", refusal as u64);
 }
 
-// Result lists that are lent.
-fn inserted(name: &[u8], degree: u32, knots: &[u16], xs: &[i32], ys: &[i32], v: u32) {
+fn answer(a: InsertAnswer) {
+    match a {
+        InsertAnswer::Inserted(points) => told(b" points ", points as u64),
+        InsertAnswer::Refused(n) => told(b" refused ", n as u64),
+    }
+}
+
+// Result lists that are lent, with a place to spare.
+fn inserted(degree: u32, knots: &[u16], xs: &[i32], ys: &[i32], v: u32) {
     let mut new_knots = [7u16; 9];
     let mut new_xs = [7i32; 6];
     let mut new_ys = [7i32; 6];
-    let answer = insert_knot::insert_knot(
+    answer(insert_knot::insert_knot(
         degree,
         knots,
         xs,
@@ -93,39 +89,33 @@ fn inserted(name: &[u8], degree: u32, knots: &[u16], xs: &[i32], ys: &[i32], v: 
         &mut new_knots,
         &mut new_xs,
         &mut new_ys,
-    );
-    match answer {
-        InsertAnswer::Inserted(points) => told(name, b" points ", points as u64),
-        InsertAnswer::Refused(n) => told(name, b" refused ", n as u64),
-    }
-    coordinates(b", x", &new_xs);
-    coordinates(b", y", &new_ys);
+    ));
+    text(b", x");
+    coordinates(&new_xs);
+}
+
+fn curve_a(knots: &[u16], xs: &[i32], ys: &[i32]) {
+    text(b"A at 1:");
+    point(3, knots, xs, ys, 1);
+    text(b"\nA at 5:");
+    point(3, knots, xs, ys, 5);
+}
+
+fn curve_b<'a>(knots: &[u16], xs: &'a [i32], ys: &'a [i32]) {
+    text(b"\nB at 4, carrying x:");
+    carried(2, knots, xs, ys, 4, Axis::X);
+    text(b"\nB at 2, carrying y:");
+    carried(2, knots, xs, ys, 2, Axis::Y);
+    text(b"\nB at 5, carrying y:");
+    carried(2, knots, xs, ys, 5, Axis::Y);
+    text(b"\n1 into B:");
+    inserted(2, knots, xs, ys, 1);
+    text(b"\n4 into B:");
+    inserted(2, knots, xs, ys, 4);
     text(b"\n");
 }
 
-fn curve_a() {
-    let knots = [0u16, 0, 0, 0, 4, 4, 4, 4];
-    let xs = [0i32, 0, 8, 8];
-    let ys = [0i32, 8, 8, 0];
-    point(b"A at 1:", 3, &knots, &xs, &ys, 1);
-    point(b"A at 5:", 3, &knots, &xs, &ys, 5);
-    carried(b"A at 1 by x", 3, &knots, &xs, &ys, 1, Axis::X);
-    carried(b"A at 1 by y", 3, &knots, &xs, &ys, 1, Axis::Y);
-    carried(b"A at 5 by y", 3, &knots, &xs, &ys, 5, Axis::Y);
-}
-
-fn curve_b() {
-    let knots = [0u16, 0, 0, 2, 4, 4, 4];
-    let xs = [0i32, 4, 8, 12];
-    let ys = [0i32, 8, 8, 0];
-    point(b"B at 2:", 2, &knots, &xs, &ys, 2);
-    carried(b"B at 4 by x", 2, &knots, &xs, &ys, 4, Axis::X);
-    carried(b"B at 2 by y", 2, &knots, &xs, &ys, 2, Axis::Y);
-    inserted(b"1 into B:", 2, &knots, &xs, &ys, 1);
-    inserted(b"4 into B:", 2, &knots, &xs, &ys, 4);
-}
-
 fn main() {
-    curve_a();
-    curve_b();
+    curve_a(&[0, 0, 0, 0, 4, 4, 4, 4], &[0, 0, 8, 8], &[0, 8, 8, 0]);
+    curve_b(&[0, 0, 0, 2, 4, 4, 4], &[0, 4, 8, 12], &[0, 8, 8, 0]);
 }

@@ -7,22 +7,13 @@ use Rattle.tour.proofs.coordinates.Statement.{statement}
 use Rattle.tour.proofs.coordinates.Tie as tie
 
 abbrev Inv-loop : tie.InvT-loop
-Inv-loop name zs k₀ t4 k = k ≤ length zs
+Inv-loop zs k₀ k = k ≤ length zs
 
 abbrev μ-loop : tie.MeasureT-loop
-μ-loop name zs k₀ t4 k = length zs - k
-
-text-requires : tie.Need-text-requires Inv-loop μ-loop
-text-requires c κs = search needs
+μ-loop zs k₀ k = length zs - k
 
 loop-holds : tie.Need-loop-holds Inv-loop μ-loop
 loop-holds c = omega arith
-
-slice-aggregate-text : tie.Need-slice-aggregate-text Inv-loop μ-loop
-slice-aggregate-text c = search needs
-
-text-requires-2 : tie.Need-text-requires-2 Inv-loop μ-loop
-text-requires-2 c κs = search needs
 
 mul-whole : tie.Need-mul-whole Inv-loop μ-loop
 mul-whole c = omega arith
@@ -51,10 +42,7 @@ coordinates-spec =
     (tie.spec
     Inv-loop
     μ-loop
-    text-requires
     loop-holds
-    slice-aggregate-text
-    text-requires-2
     mul-whole
     shared-slice-copy-out-whole
     whole-requires

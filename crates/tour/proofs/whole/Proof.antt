@@ -25,14 +25,14 @@ text-requires c κs = search needs
 returns : tie.Need-returns
 returns c = search needs
 
-cast-number : tie.Need-cast-number
-cast-number c =
+cast-spaced : tie.Need-cast-spaced
+cast-spaced c =
     let z = c .before .args .z in
     let same : toZ w32 (ofZ w32 z) ≡ z = toZ-ofZ (c .before .fits .z) in
     rw same (unsigned-fits z (c .before .fits .z) (rw same at (c .if1 .left)))
 
-number-requires : tie.Need-number-requires
-number-requires c κs = search needs
+spaced-requires : tie.Need-spaced-requires
+spaced-requires c κs = search needs
 
 returns-2 : tie.Need-returns-2
 returns-2 c = search needs
@@ -40,4 +40,4 @@ returns-2 c = search needs
 pub whole-spec : {M : Type 1} → statement M
 whole-spec =
     tie.close
-    (tie.spec slice-aggregate-text text-requires returns cast-number number-requires returns-2)
+    (tie.spec slice-aggregate-text text-requires returns cast-spaced spaced-requires returns-2)
