@@ -16,13 +16,10 @@ sys.path.insert(0, str(TESTS))
 
 from harness import driver  # noqa: E402
 from harness.compare import first_difference  # noqa: E402
-from harness.shapes import Broken, read_cases  # noqa: E402
+from harness.shapes import EXPORTED, Broken, read_cases  # noqa: E402
 from harness.worked import Unreadable, worked_cases  # noqa: E402
 from program import NotBuilt  # noqa: E402
 from second import ANSWERS, CASES, LEAST_CASES, too_few  # noqa: E402
-from second_program.vectors import CALLS  # noqa: E402
-
-EXPORTED = CALLS[:-1]  # the text of clampcheck has no export: text_cases.py
 
 
 def told(cases, fault):
@@ -67,9 +64,9 @@ def guards_are_blind(cases):
     status, lines, _ = driver.run("selftest")
     if status != 0:
         yield "the guards fail their own test: %s" % lines.decode()
-    status, answers, faults = driver.run("spoiled", cases)
-    if status != 1 or first_difference(cases, answers):
-        yield "spoiled guards end the driver with status %d, or change answers" % status
+    status, _, faults = driver.run("spoiled", cases)
+    if status != 1:
+        yield "spoiled guards end the driver with status %d" % status
     missed = {"case %d" % k for k in range(1, len(cases) + 1)} - {fault.partition(":")[0] for fault in faults}
     if missed:
         yield "a spoiled guard is not told in %d cases" % len(missed)

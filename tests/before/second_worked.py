@@ -11,7 +11,7 @@ sys.dont_write_bytecode = True
 sys.path.insert(0, str(Path(__file__).resolve().parent.parent))
 
 from harness.compare import difference
-from harness.shapes import SHAPES, Reader
+from harness.shapes import EXPORTED, SHAPES, Reader
 from harness.worked import Unreadable, worked_cases
 from second_program import vectors
 from second_program.clamp_cases import random_fraction
@@ -115,7 +115,7 @@ def by_second_program(case):
 class WorkedFile(unittest.TestCase):
     def test_second_program_agrees(self):
         cases = worked_cases()
-        self.assertEqual({case.call for case in cases}, set(vectors.CALLS) - {"clampcheck_text"})
+        self.assertEqual({case.call for case in cases}, set(EXPORTED))
         for case in cases:
             with self.subTest(case.name):
                 made = by_second_program(case)
@@ -128,6 +128,7 @@ class WorkedFile(unittest.TestCase):
         self.assertEqual(len(worked_cases(sound)), 1)
         for right, wrong in (
             ("insert_knot", "insert"),
+            ("insert_knot", "clampcheck_text"),
             ("insert_knot A,", "insert_knot C,"),
             (", v 1", ""),
             (", v 1", ", v 1 2"),

@@ -93,8 +93,20 @@ static void *place_of(const struct lent *list)
     return list->size == 0 && filling == SECOND ? NULL : arena + list->at;
 }
 
+/* An input that is lent already and holds these bytes, or NULL. */
+static const struct lent *same_input(const void *entries, size_t size)
+{
+    for (size_t i = 0; i < lent_count; i++)
+        if (lists[i].kind == INPUT && lists[i].size == size && size != 0 && memcmp(lists[i].before, entries, size) == 0)
+            return &lists[i];
+    return NULL;
+}
+
 const void *lend_input(const char *name, const void *entries, size_t count, size_t width)
 {
+    const struct lent *same = same_input(entries, count * width);
+    if (same != NULL && filling == SECOND)
+        return place_of(same);
     struct lent *list = lend(name, INPUT, count, width);
     list->before = entries;
     if (list->size != 0)

@@ -7,8 +7,8 @@
 
 #include <stddef.h>
 
-/* How the guards are filled. The two fillings differ in every byte, so that no stray write hides in both; in the second an empty list is lent as
-   a null pointer, in the first by a pointer to its guard. */
+/* How the guards are filled. The two fillings differ in every byte, so that no stray write hides in both. In the first every list has a place of its
+   own; in the second an empty list is lent as a null pointer, and two inputs with the same bytes are lent as one. */
 enum filling { FIRST, SECOND };
 
 void begin_lending(enum filling filling);

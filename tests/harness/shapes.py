@@ -1,7 +1,7 @@
 """What the case and the answer of each call hold, by name, and how they become bytes and are read back.
 
-The layout is that of second_program/vectors.py. An argument or a value is a u32, an i32 or an f64, or a list of them; a lent result list stands in the
-case by its number of places and in the answer whole. An entry that is as it was before the call is written None.
+The layout is that of second_program/vectors.py. An argument or a value is a number, a list of numbers or, of clampcheck, a text, which is read as a list of
+lines. A lent result list stands in the case by its number of places and in the answer whole; an entry that is as it was before the call is None.
 """
 
 import struct
@@ -40,6 +40,7 @@ SHAPES = dict(
     clampcheck_text=Shape((("bytes", "u8[]"),), always=(("text", "text"),)),
 )
 assert tuple(SHAPES) == CALLS
+EXPORTED = CALLS[:-1]  # the text of clampcheck has no export
 
 
 class Broken(Exception):
@@ -70,7 +71,7 @@ class Reader:
             end = self.data.find(b"\0", self.at)
             if end < 0:
                 raise Broken("a text has no end")
-            return self.take(end + 1 - self.at)[:-1].decode("latin-1")
+            return self.take(end + 1 - self.at)[:-1].decode("latin-1").splitlines(True)
         if kind.endswith("[]"):
             return self.numbers(kind[:-2], self.number())
         return self.number(kind)
@@ -80,8 +81,6 @@ class Reader:
 
 
 def packed(kind, value):
-    if kind == "text":
-        return value.encode("latin-1") + b"\0"
     if kind.endswith("[]"):
         return struct.pack("<I%d%s" % (len(value), FORMATS[kind[:-2]]), len(value), *value)
     return struct.pack("<" + FORMATS[kind], value)
@@ -143,13 +142,16 @@ def read_answer(case, reader):
 def read_cases(cases, answers):
     """All cases of tests/vectors with their answers."""
     from_cases, from_answers, read = Reader(cases), Reader(answers), []
-    while from_cases.more():
-        case = read_case("case %d of tests/vectors" % (len(read) + 1), from_cases.take(from_cases.number()))
-        start = from_answers.at
-        read_answer(case, from_answers)
-        read.append(case._replace(answer=answers[start : from_answers.at]))
+    try:
+        while from_cases.more():
+            case = read_case("case %d of tests/vectors" % (len(read) + 1), from_cases.take(from_cases.number()))
+            start = from_answers.at
+            read_answer(case, from_answers)
+            read.append(case._replace(answer=answers[start : from_answers.at]))
+    except Broken as fault:
+        raise Broken("case %d of tests/vectors or its answer: %s" % (len(read) + 1, fault)) from None
     if from_answers.more():
-        raise Broken("there are answers left over behind the last case")
+        raise Broken("tests/vectors/answers has bytes behind the last answer")
     return read
 
 

@@ -4,7 +4,7 @@ import re
 import struct
 from pathlib import Path
 
-from .shapes import SHAPES, SIDES, Case, answer_of, body_of
+from .shapes import EXPORTED, SHAPES, SIDES, Case, answer_of, body_of
 
 FILE = Path(__file__).resolve().parents[1] / "worked.txt"
 ENTRIES = re.compile(r"(?:(\d+)x)?(?:(_)|(-?\d+)\.\.(\d+)(?:/(\d+))?|(-?\d+(?:\.\d+)?))")
@@ -103,7 +103,7 @@ def answer_from(call, text, places):
 def case_of(name, text, curves):
     question, equals, answer = text.partition("=")
     call, _, arguments = question.strip().partition(" ")
-    if call not in SHAPES or not equals:
+    if call not in EXPORTED or not equals:
         raise Unreadable("there is no call %r, or no answer" % call)
     given, places = arguments_of(call, arguments, curves)
     return Case("%r of tests/worked.txt" % name, call, body_of(call, given, places), places, answer_from(call, answer, places))
