@@ -141,6 +141,7 @@ class WorkedFile(unittest.TestCase):
             ("    = ", "    "),
             ("refused 9, ", ""),
             ("refused 9", "passes"),
+            ("refused 9", "refused 0"),
             ("5x_", "5x"),
             ("5x_", "0..5/4"),
             (", y 3x_", ""),

@@ -68,8 +68,10 @@ def arguments_of(call, text, curves):
         parts.update(parts_of(given, names))
     elif comma or not parts:
         raise Unreadable("a part is empty")
-    if "clamp" in parts:
-        parts.update(zip((name for name, _ in SIDES), ([side] for side in parts.pop("clamp"))))
+    sides = parts.pop("clamp", [])
+    if sides and len(sides) != len(SIDES):
+        raise Unreadable("a clamp has four sides")
+    parts.update((name, [side]) for (name, _), side in zip(SIDES, sides))
     places = parts.pop("places", [])
     missing = [name for name, _ in shape.arguments if name not in parts]
     if missing or len(places) != len(shape.lists):
@@ -81,13 +83,14 @@ def answer_from(call, text, places):
     """The bytes of the answer that was worked out."""
     shape = SHAPES[call]
     first, comma, rest = text.partition(",")
-    refused = re.fullmatch(r"\s*refused (\d+)\s*", first)
-    if refused or first.strip() == "passes":
+    refused = re.fullmatch(r"\s*refused ([1-9]\d*)\s*", first)
+    passes = call == "check" and first.strip() == "passes"
+    if refused or passes:
         text = rest
     values = shape.always if refused else shape.values + shape.always
     kinds = dict(values + shape.lists)
     parts = parts_of(text, kinds) if comma or text.strip() else {}
-    if set(parts) != set(kinds) or (call == "check" and not refused and first.strip() != "passes"):
+    if set(parts) != set(kinds) or not (parts or refused or passes):
         raise Unreadable("the answer has to tell %s" % (", ".join(kinds) or "whether the curve passes"))
     for (name, _), count in zip(shape.lists, places):
         if len(parts[name]) != count:
