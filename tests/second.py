@@ -1,11 +1,12 @@
 """A second program for the calls of Tsaghnobir, written from the paper alone, and the cases that both programs answer.
 
-    python3 tests/second.py write            writes crates/vectors/stdin and crates/vectors/stdout
+    python3 tests/second.py write            writes tests/vectors/cases and tests/vectors/answers
     python3 tests/second.py compare          makes both anew and compares them with the files, with the demands and counts
     python3 tests/second.py compare CALL     the same for the cases of one call
 
-The program of crates/vectors runs the cases of `stdin` through the proved library, and the gate holds what it writes to
-`stdout`. SECOND_FAULT=CALL plants one fault in that call here, and the comparison must then fail.
+The scripts tests/after/door_cases.py and text_cases.py run the cases through the proved library and the program, and hold what
+they answer to the same files. SECOND_FAULT=CALL plants one fault in that call here, and the comparison must then fail; a name
+that is no call, or none of those compared, is an error.
 """
 
 import sys
@@ -15,9 +16,12 @@ from pathlib import Path
 from second_program.cases import cases_of
 from second_program.demands import Broken, try_demands
 from second_program.expected import Unexpected
+from second_program.fault import PLANTED, must_be_of
 from second_program.vectors import CALLS, answer_file, case_file
 
-FOLDER = Path(__file__).resolve().parent.parent / "crates" / "vectors"
+FOLDER = Path(__file__).resolve().parent / "vectors"
+CASES = FOLDER / "cases"
+ANSWERS = FOLDER / "answers"
 
 LEAST_CASES = 2000
 LEAST_OF_CALL = 50
@@ -67,11 +71,11 @@ def too_many(cases):
 
 def differences(calls, cases):
     """Where the files are not what is made anew; of a single call, its part of them."""
-    for name, anew in (("stdin", case_file(cases)), ("stdout", answer_file(cases))):
-        kept = (FOLDER / name).read_bytes()
+    for file, anew in ((CASES, case_file(cases)), (ANSWERS, answer_file(cases))):
+        kept = file.read_bytes()
         same = anew == kept if tuple(calls) == CALLS else anew in kept
         if not same:
-            yield "crates/vectors/%s differs from what is made anew" % name
+            yield "tests/vectors/%s differs from what is made anew" % file.name
 
 
 def compare(calls):
@@ -89,16 +93,21 @@ def compare(calls):
 def write():
     cases = [case for call in CALLS for case in cases_of(call)]
     FOLDER.mkdir(exist_ok=True)
-    (FOLDER / "stdin").write_bytes(case_file(cases))
-    (FOLDER / "stdout").write_bytes(answer_file(cases))
+    CASES.write_bytes(case_file(cases))
+    ANSWERS.write_bytes(answer_file(cases))
 
 
 def main(arguments):
     if arguments == ["write"]:
+        if PLANTED is not None:
+            print("SECOND_FAULT=%s: nothing is written with a fault" % PLANTED, file=sys.stderr)
+            return 2
         write()
         return 0
     if arguments[:1] == ["compare"] and all(call in CALLS for call in arguments[1:]):
-        faults = compare(arguments[1:] or CALLS)
+        calls = arguments[1:] or CALLS
+        must_be_of(calls)
+        faults = compare(calls)
         for fault in faults:
             print(fault, file=sys.stderr)
         return 1 if faults else 0

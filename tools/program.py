@@ -29,13 +29,13 @@ def toolchain():
     return tools
 
 
-def command():
-    """The words that start clampcheck, with the kit's own loader and C library, as `rt` starts it."""
-    if not PROGRAM.is_file():
-        raise NotBuilt("target/bin/clampcheck is not there: `rt check clampcheck` builds it")
+def command(built=PROGRAM):
+    """The words that start clampcheck, or another built program, with the kit's own loader and C library, as `rt` starts it."""
+    if not built.is_file():
+        raise NotBuilt("%s is not there; `rt check clampcheck` builds target/bin/clampcheck" % built.relative_to(TOP))
     tools = toolchain()
     emulator = tools / "bin" / "qemu-x86_64"
-    words = [tools / "lib" / "ld-linux-x86-64.so.2", "--library-path", tools / "lib", PROGRAM]
+    words = [tools / "lib" / "ld-linux-x86-64.so.2", "--library-path", tools / "lib", built]
     return [str(word) for word in ([emulator] if emulator.is_file() else []) + words]
 
 

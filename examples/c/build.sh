@@ -20,7 +20,11 @@ kit=$(dirname "$(dirname "$(rt doc)")")
 own=$kit/on/$(uname -m)
 tools=$own/toolchain
 
-rt staticlib tsaghnobir >&2
+# rt makes the archive anew each time, so it is asked only where a crate has changed since
+archive=target/staticlib/libtsaghnobir.a
+if [ ! -f "$archive" ] || [ -n "$(find crates crates.txt -newer "$archive" | head -n 1)" ]; then
+    rt staticlib tsaghnobir >&2
+fi
 mkdir -p target/c
 objects=
 for file in "$@"; do
@@ -31,7 +35,7 @@ for file in "$@"; do
     objects="$objects $object"
 done
 # shellcheck disable=SC2086
-"$own/bin/rattle-link" --target x86_64-unknown-linux-gnu --toolchain "$tools" -o "target/c/$name" $objects target/staticlib/libtsaghnobir.a 2>target/c/link.log ||
+"$own/bin/rattle-link" --target x86_64-unknown-linux-gnu --toolchain "$tools" -o "target/c/$name" $objects "$archive" 2>target/c/link.log ||
     { cat target/c/link.log >&2; exit 1; }
 
 if [ "$run" = yes ]; then

@@ -1,4 +1,4 @@
-"""Makes the cases of the second program anew and compares them with crates/vectors: counts, sizes, demands, every byte."""
+"""Makes the cases of the second program anew and compares them with tests/vectors: counts, sizes, demands, every byte."""
 
 import subprocess
 import sys

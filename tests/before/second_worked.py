@@ -1,5 +1,5 @@
-"""The second program itself, held to the cases of the scope that are worked by hand, and to laws that any right program
-keeps: insertion keeps the curve, joining is the Hermite cubic, removal is what a search over polygons finds."""
+"""The second program itself, held to the cases of the scope and of tests/worked.txt that are worked by hand, and to laws that any
+right program keeps: insertion keeps the curve, joining is the Hermite cubic, removal is what a search over polygons finds."""
 
 import sys
 import unittest
@@ -10,6 +10,10 @@ from pathlib import Path
 sys.dont_write_bytecode = True
 sys.path.insert(0, str(Path(__file__).resolve().parent.parent))
 
+from harness.compare import difference
+from harness.shapes import EXPORTED, SHAPES, Reader
+from harness.worked import Unreadable, worked_cases
+from second_program import vectors
 from second_program.clamp_cases import random_fraction
 from second_program.curve import Curve, basis, check, domain, exact_point, point_at, span_of
 from second_program.dice import Dice
@@ -86,6 +90,65 @@ class WorkedByHand(unittest.TestCase):
         self.assertEqual(read_job(job_of(WORKED_A, CLAMPS), (8, 4, 4, 12)), (0, WORKED_A, CLAMPS))
         self.assertEqual(read_job(job_of(WORKED_A, CLAMPS), (8, 4, 4, 11))[0], 15)
         self.assertEqual([list_spans_met(WORKED_A, clamp, (1, 1))[1] for clamp in CLAMPS], [[(0, 4)], [], [(0, 4)]])
+
+
+def by_second_program(case):
+    """The same case, asked of the second program."""
+    reader = Reader(case.body)
+    reader.number("u8")
+    given = [reader.value(kind) for _, kind in SHAPES[case.call].arguments]
+    make, room = getattr(vectors, case.call), tuple(case.places)
+    if case.call == "join_through_points":
+        return make(*given, room)
+    if case.call in ("read_record", "read_job"):
+        return make(bytes(given[0]), room, 0)
+    curve, rest = Curve(*given[:4]), given[4:]
+    if case.call == "list_spans_met":
+        rest = [tuple(rest)]
+    if case.call == "write_record":
+        rest = [room[0]]
+    elif room:
+        rest.append(room)
+    return make(curve, *rest)
+
+
+class WorkedFile(unittest.TestCase):
+    def test_second_program_agrees(self):
+        cases = worked_cases()
+        self.assertEqual({case.call for case in cases}, set(EXPORTED))
+        for case in cases:
+            with self.subTest(case.name):
+                made = by_second_program(case)
+                self.assertEqual(made.body, case.body)
+                if made.answer != case.answer:
+                    self.fail(difference(case, made.answer))
+
+    def test_unreadable_texts_are_told(self):
+        sound = "curve A\n    degree 1, knots 0 0 1 1, x 0 1, y 0 1\none\n    insert_knot A, v 1, places 5 3 3\n    = refused 9, knots 5x_, x 3x_, y 3x_\n"
+        self.assertEqual(len(worked_cases(sound)), 1)
+        for right, wrong in (
+            ("insert_knot", "insert"),
+            ("insert_knot", "clampcheck_text"),
+            ("insert_knot A,", "insert_knot C,"),
+            (", v 1", ""),
+            (", v 1", ", v 1 2"),
+            (", v 1", ", v 1, v 2"),
+            (", v 1", ", w 1"),
+            (", v 1", ", v -1"),
+            (", v 1", ", v _"),
+            (" 5 3 3", " 5 3"),
+            (" 5 3 3", " 6 3 3"),
+            ("    = ", "    "),
+            ("refused 9, ", ""),
+            ("refused 9", "passes"),
+            ("refused 9", "refused 0"),
+            ("5x_", "5x"),
+            ("5x_", "0..5/4"),
+            (", y 3x_", ""),
+            ("one\n", "curve A\n"),
+        ):
+            with self.subTest(wrong), self.assertRaises(Unreadable):
+                worked_cases(sound.replace(right, wrong))
 
 
 class Laws(unittest.TestCase):

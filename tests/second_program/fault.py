@@ -3,10 +3,18 @@
 Only answers are spoiled, never the cases, so that it is the comparison of answers that has to notice."""
 
 import os
+import sys
 from functools import wraps
 
-PLANTED = os.environ.get("SECOND_FAULT", "")
+PLANTED = os.environ.get("SECOND_FAULT")
 _answering = []
+
+
+def must_be_of(calls):
+    """Ends the program where a fault is asked for in none of these calls: it would be planted nowhere, and nothing would tell."""
+    if PLANTED is not None and PLANTED not in calls:
+        print("SECOND_FAULT=%s: no such call among %s" % (PLANTED, " ".join(calls)), file=sys.stderr)
+        sys.exit(2)
 
 
 def answering(function):

@@ -17,7 +17,7 @@ from typing import NamedTuple, Optional, Sequence
 
 from . import curve as curves
 from . import joining, knots, record, spans
-from .fault import answering
+from .fault import answering, must_be_of
 
 CALLS = (
     "check",
@@ -33,6 +33,7 @@ CALLS = (
     "read_job",
     "clampcheck_text",
 )
+must_be_of(CALLS)
 FORMATS = {"u8": "B", "u16": "H", "i32": "i"}
 
 

@@ -1,0 +1,99 @@
+"""Runs the cases of the second program and those worked by hand through the exports of libtsaghnobir.a, and compares every byte of the answers.
+
+A driver in C (tests/driver) lends each list between guard bytes and tells what is written outside a list or into an input. Everything runs twice, with
+guards that differ in every byte. Then the harness itself is tried: a changed answer, a lost one, an added byte and a spoiled guard must be told.
+Needs the crates proved (after `rt ci`).
+"""
+
+import sys
+import time
+from concurrent.futures import ThreadPoolExecutor
+from pathlib import Path
+
+TESTS = Path(__file__).resolve().parents[1]
+sys.dont_write_bytecode = True
+sys.path.insert(0, str(TESTS))
+
+from harness import driver  # noqa: E402
+from harness.compare import first_difference  # noqa: E402
+from harness.shapes import EXPORTED, Broken, read_cases  # noqa: E402
+from harness.worked import Unreadable, worked_cases  # noqa: E402
+from program import NotBuilt  # noqa: E402
+from second import ANSWERS, CASES, LEAST_CASES, too_few  # noqa: E402
+
+
+def told(cases, fault):
+    """A fault of the driver with the name of its case."""
+    word, _, rest = fault.partition(":")
+    number = word[len("case ") :]
+    if word.startswith("case ") and number.isdigit() and 1 <= int(number) <= len(cases):
+        case = cases[int(number) - 1]
+        return "%s (%s):%s" % (case.name, case.call, rest)
+    return fault
+
+
+def faults_of(word, cases):
+    """What is wrong with one run over all cases."""
+    status, answers, faults = driver.run(word, cases)
+    found = [told(cases, fault) for fault in faults[:10]]
+    differs = first_difference(cases, answers)
+    if differs:
+        found.append(differs)
+    if status != 0:
+        found.append("the driver ended with status %d" % status)
+    return ["%s guards: %s" % (word, fault) for fault in found]
+
+
+def comparison_is_blind(cases):
+    """Where a wrong answer would pass: one changed byte at either end of an answer of each call, a lost answer, an added byte."""
+    answers = [case.answer for case in cases]
+    for call in EXPORTED:
+        at = next(k for k, case in enumerate(cases) if case.call == call)
+        for place in (0, len(answers[at]) - 1):
+            wrong = bytearray(answers[at])
+            wrong[place] ^= 1
+            differs = first_difference(cases, b"".join(answers[:at] + [bytes(wrong)] + answers[at + 1 :]))
+            if not differs or not differs.startswith("%s (%s): " % (cases[at].name, call)):
+                yield "a changed byte %d of an answer of %s is told as %r" % (place, call, differs)
+    if not first_difference(cases, b"".join(answers[:-1])) or not first_difference(cases, b"".join(answers) + b"\0"):
+        yield "a lost answer or an added byte is not told"
+
+
+def guards_are_blind(cases):
+    """Where a write outside a list would pass."""
+    status, lines, _ = driver.run("selftest")
+    if status != 0:
+        yield "the guards fail their own test: %s" % lines.decode()
+    status, _, faults = driver.run("spoiled", cases)
+    if status != 1:
+        yield "spoiled guards end the driver with status %d" % status
+    missed = {"case %d" % k for k in range(1, len(cases) + 1)} - {fault.partition(":")[0] for fault in faults}
+    if missed:
+        yield "a spoiled guard is not told in %d cases" % len(missed)
+
+
+def main():
+    began = time.monotonic()
+    try:
+        vectors = [case for case in read_cases(CASES.read_bytes(), ANSWERS.read_bytes()) if case.call in EXPORTED]
+        worked = worked_cases()
+        driver.build()
+        cases = vectors + worked
+        with ThreadPoolExecutor(2) as pool:
+            faults = [fault for found in pool.map(lambda word: faults_of(word, cases), ("first", "second")) for fault in found]
+        faults += [*too_few(EXPORTED, vectors), *comparison_is_blind(cases), *guards_are_blind(cases)]
+    except (Broken, Unreadable, driver.Failed, NotBuilt) as fault:
+        sys.exit(str(fault))
+    if len(vectors) < LEAST_CASES:
+        faults.append("there are %d cases of the second program" % len(vectors))
+    for fault in faults:
+        print(fault)
+    print(
+        "exports: %d cases of the second program and %d worked by hand, each twice, %d faults, %.0f s"
+        % (len(vectors), len(worked), len(faults), time.monotonic() - began)
+    )
+    sys.exit(1 if faults else 0)
+
+
+if __name__ == "__main__":
+    main()

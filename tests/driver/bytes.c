@@ -1,0 +1,88 @@
+/* The bytes of a case and of its answer: see bytes.h. */
+#include "bytes.h"
+
+#include <stdio.h>
+#include <stdlib.h>
+#include <string.h>
+
+#define MOST_ANSWER (4u << 20)
+
+static const unsigned char *body;
+static size_t left;
+static int cut_short;
+static unsigned char answer[MOST_ANSWER];
+static size_t answered;
+
+void begin_case(const unsigned char *bytes, size_t length)
+{
+    body = bytes;
+    left = length;
+    cut_short = 0;
+}
+
+/* The next bytes, or some zeros where there are not as many. */
+static const unsigned char *take(size_t size)
+{
+    static const unsigned char zeros[4];
+    if (size > left) {
+        cut_short = 1;
+        return zeros;
+    }
+    const unsigned char *taken = body;
+    body += size;
+    left -= size;
+    return taken;
+}
+
+unsigned char take_byte(void)
+{
+    return *take(1);
+}
+
+uint32_t take_number(void)
+{
+    const unsigned char *b = take(4);
+    return b[0] | (uint32_t)b[1] << 8 | (uint32_t)b[2] << 16 | (uint32_t)b[3] << 24;
+}
+
+const unsigned char *take_entries(size_t width, size_t *count)
+{
+    *count = take_number();
+    if (*count > left / width) {
+        cut_short = 1;
+        *count = 0;
+    }
+    return take(*count * width);
+}
+
+int case_is_whole(void)
+{
+    return !cut_short && left == 0;
+}
+
+void begin_answer(void)
+{
+    answered = 0;
+}
+
+void put_entries(const void *entries, size_t count, size_t width)
+{
+    if (count > (MOST_ANSWER - answered) / width) {
+        fprintf(stderr, "an answer is too long for the driver\n");
+        exit(2);
+    }
+    if (count != 0)
+        memcpy(answer + answered, entries, count * width);
+    answered += count * width;
+}
+
+void put_number(uint32_t number)
+{
+    put_entries(&number, 1, sizeof number);
+}
+
+const unsigned char *answer_so_far(size_t *length)
+{
+    *length = answered;
+    return answer;
+}

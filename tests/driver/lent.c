@@ -1,0 +1,165 @@
+/* Lists and numbers between guard bytes: see lent.h. */
+#include "lent.h"
+
+#include <stdint.h>
+#include <stdio.h>
+#include <stdlib.h>
+#include <string.h>
+
+#define GUARD 256            /* bytes before the first list, between two and behind the last; more where the next needs it to be aligned */
+#define ALIGNED 8            /* enough for every type that is lent */
+#define ARENA (4u << 20)
+#define MOST_LENT 16
+
+enum kind { INPUT, RESULT, NUMBER };
+
+struct lent {
+    const char *name;
+    enum kind kind;
+    size_t at, size;
+    const unsigned char *before; /* what an input held */
+};
+
+static unsigned char *arena;
+static size_t used;
+static enum filling filling;
+static struct lent lists[MOST_LENT];
+static size_t lent_count;
+
+static unsigned char guard_at(size_t place)
+{
+    return (unsigned char)((filling == FIRST ? 0x00 : 0xFF) ^ (place * 29 + place / 256));
+}
+
+static unsigned char number_before(size_t k)
+{
+    return (unsigned char)(0xB7 - 11 * k);
+}
+
+static void fill_guard(size_t from, size_t until)
+{
+    for (size_t i = from; i < until; i++)
+        arena[i] = guard_at(i);
+}
+
+static int guard_holds(size_t from, size_t until)
+{
+    for (size_t i = from; i < until; i++)
+        if (arena[i] != guard_at(i))
+            return 0;
+    return 1;
+}
+
+void begin_lending(enum filling chosen)
+{
+    if (arena == NULL)
+        arena = malloc(ARENA);
+    if (arena == NULL) {
+        fprintf(stderr, "there is no memory for the lists\n");
+        exit(2);
+    }
+    filling = chosen;
+    lent_count = 0;
+    used = GUARD;
+    fill_guard(0, GUARD);
+}
+
+/* The guard behind a list: it begins where the list ends, and ends where the next one may begin. */
+static size_t guard_end(const struct lent *list)
+{
+    return (list->at + list->size + GUARD + ALIGNED - 1) / ALIGNED * ALIGNED;
+}
+
+static struct lent *lend(const char *name, enum kind kind, size_t count, size_t width)
+{
+    size_t beside = used + GUARD + ALIGNED;
+    if (lent_count == MOST_LENT || beside > ARENA || count > (ARENA - beside) / width) {
+        fprintf(stderr, "the lists of a case are too long for the driver\n");
+        exit(2);
+    }
+    struct lent *list = &lists[lent_count++];
+    list->name = name;
+    list->kind = kind;
+    list->at = used;
+    list->size = count * width;
+    list->before = NULL;
+    used = guard_end(list);
+    fill_guard(list->at + list->size, used);
+    return list;
+}
+
+static void *place_of(const struct lent *list)
+{
+    return list->size == 0 && filling == SECOND ? NULL : arena + list->at;
+}
+
+/* An input that is lent already and holds these bytes, or NULL. */
+static const struct lent *same_input(const void *entries, size_t size)
+{
+    for (size_t i = 0; i < lent_count; i++)
+        if (lists[i].kind == INPUT && lists[i].size == size && size != 0 && memcmp(lists[i].before, entries, size) == 0)
+            return &lists[i];
+    return NULL;
+}
+
+const void *lend_input(const char *name, const void *entries, size_t count, size_t width)
+{
+    const struct lent *same = same_input(entries, count * width);
+    if (same != NULL && filling == SECOND)
+        return place_of(same);
+    struct lent *list = lend(name, INPUT, count, width);
+    list->before = entries;
+    if (list->size != 0)
+        memcpy(arena + list->at, entries, list->size);
+    return place_of(list);
+}
+
+void *lend_result(const char *name, size_t count, size_t width)
+{
+    struct lent *list = lend(name, RESULT, count, width);
+    for (size_t k = 0; k < count; k++) {
+        uint32_t entry = (uint32_t)(width == 1 ? 5 * k + 3 : width == 2 ? 7 * k + 13 : 9 * k - 5);
+        memcpy(arena + list->at + k * width, &entry, width); /* the low bytes come first, here as in the files */
+    }
+    return place_of(list);
+}
+
+void *lend_number(const char *name, size_t width)
+{
+    struct lent *list = lend(name, NUMBER, 1, width);
+    for (size_t k = 0; k < width; k++)
+        arena[list->at + k] = number_before(k);
+    return arena + list->at;
+}
+
+static int number_holds(const struct lent *list)
+{
+    for (size_t k = 0; k < list->size; k++)
+        if (arena[list->at + k] != number_before(k))
+            return 0;
+    return 1;
+}
+
+const char *what_is_wrong(int refused, const char **name)
+{
+    *name = "the first list";
+    if (!guard_holds(0, GUARD))
+        return "was written before its first entry";
+    for (size_t i = 0; i < lent_count; i++) {
+        const struct lent *list = &lists[i];
+        *name = list->name;
+        if (!guard_holds(list->at + list->size, guard_end(list)))
+            return "was written behind its last entry, or what was lent next before its first";
+        if (list->kind == INPUT && list->size != 0 && memcmp(arena + list->at, list->before, list->size) != 0)
+            return "is an input and was changed";
+        if (list->kind == NUMBER && refused && !number_holds(list))
+            return "was changed by a call that was refused";
+    }
+    return NULL;
+}
+
+void spoil_guard(size_t which)
+{
+    const struct lent *list = &lists[which % lent_count];
+    arena[list->at + list->size] ^= 0xFF;
+}

@@ -1,0 +1,31 @@
+/*
+ * Lists and numbers lent to a call. Each stands between guard bytes, flush with them at both ends; after the call the guards, the inputs
+ * and, where the call was refused, the single numbers must be as they were.
+ */
+#ifndef LENT_H
+#define LENT_H
+
+#include <stddef.h>
+
+/* How the guards are filled. The two fillings differ in every byte, so that no stray write hides in both. In the first every list has a place of its
+   own; in the second an empty list is lent as a null pointer, and two inputs with the same bytes are lent as one. */
+enum filling { FIRST, SECOND };
+
+void begin_lending(enum filling filling);
+
+/* A list that the call may only read: a copy of the entries. */
+const void *lend_input(const char *name, const void *entries, size_t count, size_t width);
+
+/* A list for a result, filled as tests/second_program/vectors.py says for entries of this width: u8, u16 or i32. */
+void *lend_result(const char *name, size_t count, size_t width);
+
+/* A place for a single number, aligned for it. */
+void *lend_number(const char *name, size_t width);
+
+/* What is wrong after the call, and the name of the list that it is told of; NULL where all is well. */
+const char *what_is_wrong(int refused, const char **name);
+
+/* Spoils the byte behind one of the lists, to try whether that is told. */
+void spoil_guard(size_t which);
+
+#endif

@@ -1,0 +1,70 @@
+/* Tries the guards: an entry written past either end of a list, into an input or, on a refusal, into a number must be told; no other write. */
+#include "selftest.h"
+
+#include <stdint.h>
+#include <stdio.h>
+#include <string.h>
+
+#include "lent.h"
+
+enum { INPUT, RESULT, NUMBER, BYTES, LISTS };
+
+static const char *const names[LISTS] = {"input", "result", "number", "bytes"};
+static const long counts[LISTS] = {3, 3, 1, 3};
+static const size_t widths[LISTS] = {2, 4, 8, 1};
+
+static int failed;
+
+/* Lends four lists, writes one entry, every byte of it the same, and hands back the name of the list that is told of. */
+static const char *told_of(enum filling filling, int list, long entry, int byte, int refused)
+{
+    static const uint16_t input[3] = {301, 302, 303};
+    unsigned char *start[LISTS];
+    const char *name;
+    begin_lending(filling);
+    start[INPUT] = (unsigned char *)lend_input(names[INPUT], input, 3, 2);
+    start[RESULT] = lend_result(names[RESULT], 3, 4);
+    start[NUMBER] = lend_number(names[NUMBER], 8);
+    start[BYTES] = lend_result(names[BYTES], 3, 1);
+    memset(start[list] + entry * (long)widths[list], byte, widths[list]);
+    return what_is_wrong(refused, &name) ? name : NULL;
+}
+
+static void expect(int told, const char *what, int list, int byte)
+{
+    if (!told && !failed++)
+        printf("selftest: %s of %s by bytes %d\n", what, names[list], byte);
+}
+
+static int same(const char *told, const char *name)
+{
+    return told != NULL && strcmp(told, name) == 0;
+}
+
+/* A stray byte may happen to be the guard's own in one filling, never in both. */
+static int told_in_one(int list, long entry, int byte, const char *name)
+{
+    return same(told_of(FIRST, list, entry, byte, 0), name) || same(told_of(SECOND, list, entry, byte, 0), name);
+}
+
+int selftest(void)
+{
+    for (int list = 0; list < LISTS; list++)
+        for (int byte = 0; byte < 256; byte++) {
+            const char *before = list == 0 ? "the first list" : names[list - 1];
+            expect(told_in_one(list, counts[list], byte, names[list]), "not told: an entry behind the end", list, byte);
+            expect(told_in_one(list, -1, byte, before), "not told: an entry before the start", list, byte);
+        }
+    for (enum filling filling = FIRST; filling <= SECOND; filling++) {
+        expect(same(told_of(filling, INPUT, 2, 9, 0), names[INPUT]), "not told: a changed entry", INPUT, 9);
+        expect(same(told_of(filling, NUMBER, 0, 9, 1), names[NUMBER]), "not told: a change on a refusal", NUMBER, 9);
+        expect(told_of(filling, NUMBER, 0, 9, 0) == NULL, "told: a change on a success", NUMBER, 9);
+        for (long entry = 0; entry < 3; entry++) {
+            expect(told_of(filling, RESULT, entry, 9, 1) == NULL, "told: an entry", RESULT, 9);
+            expect(told_of(filling, BYTES, entry, 9, 1) == NULL, "told: an entry", BYTES, 9);
+        }
+    }
+    if (!failed)
+        printf("the guards tell what they should\n");
+    return failed != 0;
+}

@@ -1,0 +1,140 @@
+"""Reads tests/worked.txt, whose first lines tell how it is written, and turns each case into its bytes and those of its answer."""
+
+import re
+import struct
+from pathlib import Path
+
+from .shapes import EXPORTED, SHAPES, SIDES, Case, answer_of, body_of
+
+FILE = Path(__file__).resolve().parents[1] / "worked.txt"
+ENTRIES = re.compile(r"(?:(\d+)x)?(?:(_)|(-?\d+)\.\.(\d+)(?:/(\d+))?|(-?\d+(?:\.\d+)?))")
+
+
+class Unreadable(Exception):
+    """A place of the file that is not written as it should be."""
+
+
+def number_of(text):
+    return float(text) if "." in text else int(text)
+
+
+def entries_of(word):
+    """The entries that one word stands for."""
+    match = ENTRIES.fullmatch(word)
+    if not match:
+        raise Unreadable("%r is no number and no list of them" % word)
+    times, same, first, last, step, single = match.groups()
+    if same:
+        one = [None]
+    elif single:
+        one = [number_of(single)]
+    else:
+        one = list(range(int(first), int(last) + 1, int(step or 1)))
+        if not one or one[-1] != int(last):
+            raise Unreadable("%r does not end at %s" % (word, last))
+    return [entry for entry in one for _ in range(int(times or 1))]
+
+
+def parts_of(text, kinds):
+    """The parts of a line: lists by name, in which only the names of `kinds` stand, each once."""
+    parts = {}
+    for part in text.split(","):
+        name, *words = part.split() or [""]
+        if name not in kinds:
+            raise Unreadable("there is no part %r here" % name)
+        if name in parts:
+            raise Unreadable("%r stands twice" % name)
+        parts[name] = [entry for word in words for entry in entries_of(word)]
+    return parts
+
+
+def of_kind(name, kind, entries):
+    """The value of a part: a list, or its only entry."""
+    if kind.endswith("[]"):
+        return entries
+    if len(entries) != 1:
+        raise Unreadable("%r is one number" % name)
+    return float(entries[0]) if kind == "f64" else entries[0]
+
+
+def arguments_of(call, text, curves):
+    """The arguments by name, and the places of the lent lists."""
+    shape = SHAPES[call]
+    first, comma, rest = text.partition(",")
+    parts = dict(curves.get(first.strip(), {}))
+    given = rest if parts else text
+    names = [name for name, _ in shape.arguments] + ["clamp"] * (SIDES[0] in shape.arguments) + ["places"] * bool(shape.lists)
+    if given.strip():
+        parts.update(parts_of(given, names))
+    elif comma or not parts:
+        raise Unreadable("a part is empty")
+    sides = parts.pop("clamp", [])
+    if sides and len(sides) != len(SIDES):
+        raise Unreadable("a clamp has four sides")
+    parts.update((name, [side]) for (name, _), side in zip(SIDES, sides))
+    places = parts.pop("places", [])
+    missing = [name for name, _ in shape.arguments if name not in parts]
+    if missing or len(places) != len(shape.lists):
+        raise Unreadable("%s is missing" % (missing[0] if missing else "the number of places"))
+    return {name: of_kind(name, kind, parts[name]) for name, kind in shape.arguments}, places
+
+
+def answer_from(call, text, places):
+    """The bytes of the answer that was worked out."""
+    shape = SHAPES[call]
+    first, comma, rest = text.partition(",")
+    refused = re.fullmatch(r"\s*refused ([1-9]\d*)\s*", first)
+    passes = call == "check" and first.strip() == "passes"
+    if refused or passes:
+        text = rest
+    values = shape.always if refused else shape.values + shape.always
+    kinds = dict(values + shape.lists)
+    parts = parts_of(text, kinds) if comma or text.strip() else {}
+    if set(parts) != set(kinds) or not (parts or refused or passes):
+        raise Unreadable("the answer has to tell %s" % (", ".join(kinds) or "whether the curve passes"))
+    for (name, _), count in zip(shape.lists, places):
+        if len(parts[name]) != count:
+            raise Unreadable("%s has %d entries and %d places" % (name, len(parts[name]), count))
+    return answer_of(
+        call,
+        int(refused[1]) if refused else 0,
+        {name: of_kind(name, kind, parts[name]) for name, kind in values},
+        parts,
+    )
+
+
+def case_of(name, text, curves):
+    question, equals, answer = text.partition("=")
+    call, _, arguments = question.strip().partition(" ")
+    if call not in EXPORTED or not equals:
+        raise Unreadable("there is no call %r, or no answer" % call)
+    given, places = arguments_of(call, arguments, curves)
+    return Case("%r of tests/worked.txt" % name, call, body_of(call, given, places), places, answer_from(call, answer, places))
+
+
+def blocks(text):
+    """The number of the line that each block begins with, that line, and what is indented below it."""
+    found = []
+    for number, line in enumerate(text.splitlines(), 1):
+        if line.startswith(" ") and found:
+            found[-1][2].append(line.strip())
+        elif line.strip() and not line.startswith("#"):
+            found.append((number, line.strip(), []))
+    return [(number, name, " ".join(lines)) for number, name, lines in found]
+
+
+def worked_cases(text=None):
+    """Every case of the file, in its order."""
+    curves, cases, names = {}, [], set()
+    for number, name, below in blocks(FILE.read_text() if text is None else text):
+        try:
+            if name in names:
+                raise Unreadable("there is another case of this name")
+            names.add(name)
+            if name.startswith("curve "):
+                curves[re.split(r"[ ,]+", name)[1]] = parts_of(below, ("degree", "knots", "x", "y"))
+            else:
+                cases.append(case_of(name, below, curves))
+        except (Unreadable, struct.error) as fault:
+            raise Unreadable("tests/worked.txt:%d: %s: %s" % (number, name, fault)) from None
+    return cases
