@@ -1,4 +1,7 @@
-/* Checking a curve, its point and carrying points, and the spans that may meet a clamp, written plainly. */
+/*
+ * Checking a curve, its point and carrying points, and the spans that may meet a clamp, written plainly. The loops of the check run to
+ * their end, as those of the library do, so that a compiler can make the same vector code of both.
+ */
 #include "plain.h"
 #include "tsaghnobir.h"
 
@@ -9,10 +12,30 @@ static int on_grid(int32_t z)
 
 static int all_on_grid(const int32_t *zs, size_t count)
 {
+    int fine = 1;
     for (size_t i = 0; i < count; i++)
         if (!on_grid(zs[i]))
-            return 0;
-    return 1;
+            fine = 0;
+    return fine;
+}
+
+static int falls(const uint16_t *knots, size_t count)
+{
+    int found = 0;
+    for (size_t i = 1; i < count; i++)
+        if (knots[i] < knots[i - 1])
+            found = 1;
+    return found;
+}
+
+/* Whether a value stands too often, where no knot falls and the ends are m + 1 equal knots: the first and the last one do not count. */
+static int repeats(const uint16_t *knots, size_t m, size_t count)
+{
+    int found = 0;
+    for (size_t i = m + 1; i < count - 1; i++)
+        if (knots[i] == knots[i - m])
+            found = 1;
+    return found;
 }
 
 uint32_t plain_check(CURVE)
@@ -24,20 +47,13 @@ uint32_t plain_check(CURVE)
         return TSB_POINT_COUNT;
     if (knots_len != xs_len + m + 1)
         return TSB_KNOT_COUNT;
-    for (size_t i = 0; i < knots_len; i++)
-        if (knots[i] > TSB_KNOT_MOST || (i > 0 && knots[i] < knots[i - 1]))
-            return TSB_KNOT_ORDER;
     uint16_t first = knots[0], last = knots[knots_len - 1];
-    if (first == last)
+    if (falls(knots, knots_len) || last > TSB_KNOT_MOST)
+        return TSB_KNOT_ORDER;
+    if (knots[m] != first || knots[knots_len - 1 - m] != last || first == last)
         return TSB_ENDS;
-    for (size_t i = 1; i <= m; i++)
-        if (knots[i] != first || knots[knots_len - 1 - i] != last)
-            return TSB_ENDS;
-    for (size_t i = 0; i < knots_len; i++) {
-        size_t most = knots[i] == first || knots[i] == last ? m + 1 : m;
-        if (i + most < knots_len && knots[i + most] == knots[i])
-            return TSB_REPEATS;
-    }
+    if (repeats(knots, m, knots_len))
+        return TSB_REPEATS;
     if (!all_on_grid(xs, xs_len) || !all_on_grid(ys, ys_len))
         return TSB_RANGE;
     return TSB_OK;

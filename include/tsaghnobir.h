@@ -66,13 +66,14 @@ enum tsb_refusal {
     TSB_PARAMETER = 8,      /* the parameter lies outside the curve's domain */
     TSB_INSERTION = 9,      /* insertion: the value is not strictly between the ends, or stands there degree times already */
     TSB_FULL = 10,          /* insertion: the curve has 1024 points already */
-    TSB_NOT_WHOLE = 11,     /* a new coordinate would not be a whole number */
+    TSB_NOT_WHOLE = 11,     /* inserting or joining: a new coordinate would fall between two grid lines */
     TSB_NOT_INNER = 12,     /* removal: the value is no knot strictly between the ends */
     TSB_NOT_REMOVABLE = 13, /* removal: no whole points within range give the old curve with the value inserted again */
     TSB_RECTANGLE = 14,     /* a rectangle's low side lies above its high side, or a side beyond +-262144 */
     TSB_ROOM = 15,          /* a result list has too few places */
     TSB_BYTES = 16,         /* the bytes are no record, or no job */
-    TSB_SPLINE_POINTS = 17, /* spline points: under 2 or over 342, lists of unequal length, or parameters that do not rise strictly or go above 16383 */
+    TSB_SPLINE_POINTS = 17, /* joining: one spline point or none, more than 342, five lists that are not equally long, a
+                               parameter above 16383 or one that is not above the parameter before it */
     TSB_JOINED_RANGE = 18   /* joining: a control point would lie beyond +-262144 */
 };
 
@@ -111,7 +112,8 @@ uint32_t tsb_point(
 
 /*
  * Which control points carry the curve at t: the entries *first to *first + degree of xs and ys, and no
- * others. The point at t lies in their convex hull.
+ * others. The exact point at t lies in their convex hull; the one that tsb_point computes may be off it by
+ * the rounding that is named there.
  * Refused by 1 to 7, then 8.
  */
 uint32_t tsb_carrying(
@@ -122,7 +124,7 @@ uint32_t tsb_carrying(
 /*
  * The same curve with the knot v once more (Boehm's insertion): knots_len + 1 knots to out_knots, one point
  * more than before to out_xs and out_ys, and the new number of points to *points.
- * Refused by 1 to 7, then 9, 10, 11 (a new coordinate on either axis would not be whole), then 15.
+ * Refused by 1 to 7, then 9, 10, 11 (on either axis), then 15.
  */
 uint32_t tsb_insert(
     uint32_t degree, const uint16_t *knots, size_t knots_len,
@@ -153,8 +155,7 @@ uint32_t tsb_remove(
  * tsb_remove, as often as that is possible; one pass. The new number of points goes to *points and the number
  * of knots removed to *removed; there are *points + degree + 1 knots. Nothing to remove is no refusal: the curve
  * comes back as it is. The lists need places for the result alone.
- * Refused by 1 to 7, then 15. The time grows with the square of the number of points, not evenly as for the
- * other calls.
+ * Refused by 1 to 7, then 15.
  */
 uint32_t tsb_compact(
     uint32_t degree, const uint16_t *knots, size_t knots_len,

@@ -1,4 +1,4 @@
-"""A second program for the calls of Tsaghnobir, written from the paper alone, and the cases that both programs answer.
+"""A second program for the calls of Tsaghnobir, written from the scope alone, and the cases that both programs answer.
 
     python3 tests/second.py write            writes tests/vectors/cases and tests/vectors/answers
     python3 tests/second.py compare          makes both anew and compares them with the files, with the demands and counts

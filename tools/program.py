@@ -1,21 +1,23 @@
-#!/usr/bin/env python3
-"""Runs the built clampcheck: directly on x86-64, under the kit's emulator on any other machine.
-
-    python3 tools/program.py sample.job      prints what clampcheck says of the job
-"""
+"""Runs the built clampcheck: directly on x86-64, under the kit's emulator on any other machine."""
 
 import os
 import pathlib
 import platform
 import shutil
 import subprocess
-import sys
+
+import job_bytes
 
 TOP = pathlib.Path(__file__).resolve().parents[1]
 PROGRAM = TOP / "target" / "bin" / "clampcheck"
+SECONDS = 60
 
 
-class NotBuilt(Exception):
+class NotRun(Exception):
+    """Clampcheck did not run to its end; the message says why."""
+
+
+class NotBuilt(NotRun):
     """There is no program yet, or no kit to run it with."""
 
 
@@ -32,30 +34,27 @@ def toolchain():
 def command(built=PROGRAM):
     """The words that start clampcheck, or another built program, with the kit's own loader and C library, as `rt` starts it."""
     if not built.is_file():
-        raise NotBuilt("%s is not there; `rt check clampcheck` builds target/bin/clampcheck" % built.relative_to(TOP))
+        raise NotBuilt("%s is not there: tools/try.sh proves and builds it" % built.relative_to(TOP))
     tools = toolchain()
     emulator = tools / "bin" / "qemu-x86_64"
     words = [tools / "lib" / "ld-linux-x86-64.so.2", "--library-path", tools / "lib", built]
     return [str(word) for word in ([emulator] if emulator.is_file() else []) + words]
 
 
+def read_input(name):
+    """The bytes of a file, or of standard input for None. Of a file that is too long to be a job, one byte too many."""
+    with open(0 if name is None else name, "rb", closefd=name is not None) as data:
+        return data.read(job_bytes.MOST_BYTES + 1)
+
+
 def clampcheck(job):
-    """What clampcheck prints on a job's bytes."""
-    ended = subprocess.run(command(), input=job, stdout=subprocess.PIPE, check=True, timeout=60)
-    return ended.stdout.decode("ascii")
-
-
-def main(arguments):
-    if len(arguments) != 1:
-        sys.exit(__doc__)
-    with open(arguments[0], "rb") as data:
-        sys.stdout.write(clampcheck(data.read()))
-
-
-if __name__ == "__main__":
+    """What clampcheck prints on a job's bytes, or NotRun."""
     try:
-        main(sys.argv[1:])
-    except NotBuilt as fault:
-        sys.exit(str(fault))
+        ended = subprocess.run(command(), input=job, stdout=subprocess.PIPE, timeout=SECONDS)
+    except subprocess.TimeoutExpired:
+        raise NotRun("clampcheck had not ended after %d seconds" % SECONDS) from None
     except OSError as fault:
-        sys.exit("%s: %s" % (fault.filename, fault.strerror))
+        raise NotRun("clampcheck could not be started: %s" % fault.strerror) from None
+    if ended.returncode:
+        raise NotRun("clampcheck ended with status %d" % ended.returncode)
+    return ended.stdout

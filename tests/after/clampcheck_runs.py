@@ -26,7 +26,7 @@ from second_program.random_curves import spoiled_curve  # noqa: E402
 from second_program.record import clampcheck_text, record_of  # noqa: E402
 
 TIMEOUT = 40
-MOST_SECONDS = 60
+MOST_SECONDS = 150
 LONGEST = 11477
 LONGEST_OF_CLAMP = 31713
 CURVE_A = Curve(3, [0, 0, 0, 0, 4, 4, 4, 4], [0, 0, 8, 8], [0, 8, 8, 0])

@@ -1,4 +1,4 @@
-"""Holds include/tsaghnobir.h against the exports: every function with its parameters in order, name and type, and every refusal number with its name."""
+"""Holds include/tsaghnobir.h against the library: every export with its parameters in order, name and type; every refusal number and every limit by its name."""
 import pathlib
 import re
 import sys
@@ -34,6 +34,14 @@ def declarations(header):
     return found
 
 
+def limits():
+    """The limits of the library, each worked out from the ones before it."""
+    values = {}
+    for name, value in re.findall(r"^pub const (\w+): \w+ = ([\w +*()]+);", (root / "crates/grid/src/lib.rt").read_text(), re.M):
+        values[name] = eval(value, {}, values)
+    return values
+
+
 header = (root / "include/tsaghnobir.h").read_text()
 bare = re.sub(r"/\*.*?\*/", "", header, flags=re.S)
 faults = []
@@ -47,6 +55,13 @@ named = {name: value for name, value in re.findall(r"TSB_(\w+) = (\d+)", bare)}
 numbers["OK"] = numbers.pop("ACCEPTED")
 if numbers != named:
     faults.append(f"refusal numbers: {sorted(numbers.items() ^ named.items())}")
+library = limits()
+defined = {name: int(value) for name, value in re.findall(r"^#define TSB_(\w+_MOST) +(\d+) *$", bare, re.M)}
+for name, value in sorted(defined.items()):
+    if library.get(name) != value:
+        faults.append(f"TSB_{name}: {value} in the header, {library.get(name)} in the library")
+if len(defined) != bare.count("_MOST "):
+    faults.append("a limit of the header is no plain number")
 if not exported or faults:
     sys.exit("the header and the exports differ:\n" + "\n".join(faults))
-print(f"the header declares the {len(exported)} exports and the {len(named)} numbers as they are")
+print(f"the header has the {len(exported)} exports, the {len(named)} refusal numbers and {len(defined)} limits as they are")

@@ -1,7 +1,10 @@
-"""docs/READING.md lists every file of definitions that a reader must believe, with its number of lines.
+"""docs/READING.md lists every file of definitions that the promises or a public contract reach, and how many of its lines.
 
-`python3 tests/before/reading_table.py write` brings the numbers up to date; with no word it only compares.
-A definitions file that no row names, and that is not listed as inner, is a fault.
+    python3 tests/before/reading_table.py          compares the page with what is made anew
+    python3 tests/before/reading_table.py write    writes the tables and the sums into the page
+
+What is reached is followed name by name: from crates/promises/specs/Promises.antt, and from the `ensures` of every public
+call and export, through the definitions that each cites. Lines are counted with their comments, without imports and blanks.
 """
 
 import pathlib
@@ -9,37 +12,35 @@ import re
 import sys
 
 TOP = pathlib.Path(__file__).resolve().parents[2]
+sys.path.insert(0, str(TOP / "tests"))
+sys.dont_write_bytecode = True
+
+from trusted.reach import reached  # noqa: E402
+from trusted.tables import tables  # noqa: E402
+
 PAGE = TOP / "docs" / "READING.md"
-ROW = re.compile(r"^\| `(crates/\S+/specs/\S+\.antt)` \| (\d+) \|(.*)$", re.M)
-INNER = re.compile(r"^- inner: `(crates/\S+/specs/\S+\.antt)`", re.M)
+MADE = re.compile(r"(<!-- made: (\w+) -->\n).*?(<!-- end -->)", re.S)
+MOST_OF_CALLS = 620
 
 
-def lines(path):
-    return len((TOP / path).read_text().splitlines())
-
-
-def main():
+def main(words):
+    made = tables(reached())
     text = PAGE.read_text()
-    faults = []
-    named = set(INNER.findall(text))
-    for path, count, _ in ROW.findall(text):
-        named.add(path)
-        if not (TOP / path).is_file():
-            faults.append(f"docs/READING.md: {path} is not there")
-        elif lines(path) != int(count):
-            faults.append(f"docs/READING.md: {path} has {lines(path)} lines, not {count}")
-    for path in sorted((TOP / "crates").glob("*/specs/*.antt")):
-        name = path.relative_to(TOP).as_posix()
-        if path.name != "Lib.antt" and name not in named:
-            faults.append(f"docs/READING.md does not name {name}")
-    if sys.argv[1:] == ["write"]:
-        PAGE.write_text(ROW.sub(lambda m: f"| `{m[1]}` | {lines(m[1])} |{m[3]}", text))
-        return 0
+    missing = [name for name in made if f"<!-- made: {name} -->" not in text]
+    anew = MADE.sub(lambda part: part[1] + made[part[2]] + part[3], text)
+    if words == ["write"]:
+        PAGE.write_text(anew)
+    faults = [f"docs/READING.md has no place for the made part {name}" for name in missing]
+    if words != ["write"] and anew != text:
+        faults.append("docs/READING.md is not what `python3 tests/before/reading_table.py write` makes")
+    calls = int(re.search(r"\d+", made["calls_sum"].replace(",", ""))[0])
+    if calls > MOST_OF_CALLS:
+        faults.append(f"the calls' contracts and what they cite are {calls} lines, more than {MOST_OF_CALLS}")
     for fault in faults:
         print(fault)
-    print(f"{len(named)} files of definitions named, {len(faults)} faults")
+    print(f"the calls and all that they cite: {calls} lines; {len(faults)} faults")
     return 1 if faults else 0
 
 
 if __name__ == "__main__":
-    sys.exit(main())
+    sys.exit(main(sys.argv[1:]))

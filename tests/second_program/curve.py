@@ -51,7 +51,7 @@ def domain(curve):
 
 
 def span_of(curve, t):
-    """The largest i from m to n with t_i <= t and t_i < t_{i+1}; t may be a fraction."""
+    """The last index, of those from m to n, whose span is not empty and does not begin above t, a whole number or a fraction."""
     ts = curve.knots
     return max(i for i in range(curve.degree, len(curve.xs)) if ts[i] <= t and ts[i] < ts[i + 1])
 

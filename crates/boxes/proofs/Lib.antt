@@ -1,3 +1,4 @@
 -- Laws of boxes.
-pub mod MeetingLaws
-pub mod PickLaws
+mod PickLaws
+mod MeetingLaws
+pub mod SentenceLaws

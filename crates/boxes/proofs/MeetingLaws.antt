@@ -8,7 +8,8 @@ use lib.IntN.{ℤ, pos}
 use lib.ListN.{length, getD, drop, drop-of-length-le}
 use lib.Signed.{leZ, ltZ}
 use Rattle.signed.proofs.OrderLaws.{leZ-trans, ltZ-true, ltZ-false, le-leZ}
-use Rattle.boxes.specs.Extent.{lesser, greater, pickFrom}
+use Rattle.boxes.specs.Extent.{lesser, greater}
+use Rattle.boxes.proofs.PickLaws.{pickFrom}
 use Rattle.boxes.specs.Meeting.{someAtMost, someAtLeast, meetsOnAxis}
 
 -- a || false
@@ -23,7 +24,7 @@ or-second true false c = refl
 or-second false b c = refl
 
 -- a test that the pick of two numbers passes exactly where one of the two does, passes of the pick of a list exactly where one entry does
-pub pickFrom-some : (pick : ℤ → ℤ → ℤ) (test : ℤ → Bool) (some : List ℤ → Bool) → some [] ≡ false → ((z : ℤ) (zs : List ℤ) → some (z ∷ zs) ≡ (test z || some zs)) → ((z so : ℤ) → test (pick z so) ≡ (test z || test so)) → (so : ℤ) (zs : List ℤ) → test (pickFrom pick so zs) ≡ (test so || some zs)
+pickFrom-some : (pick : ℤ → ℤ → ℤ) (test : ℤ → Bool) (some : List ℤ → Bool) → some [] ≡ false → ((z : ℤ) (zs : List ℤ) → some (z ∷ zs) ≡ (test z || some zs)) → ((z so : ℤ) → test (pick z so) ≡ (test z || test so)) → (so : ℤ) (zs : List ℤ) → test (pickFrom pick so zs) ≡ (test so || some zs)
 unfolding pickFrom
 pickFrom-some pick test some none more picks so [] = sym (ap (λ (b : Bool). test so || b) none ∙ or-false (test so))
 pickFrom-some pick test some none more picks so (z ∷ zs) =
@@ -50,7 +51,7 @@ ltZ-not : (a b : ℤ) → ltZ a b ≡ false → leZ b a ≡ true
 ltZ-not a b h = le-leZ b a (ltZ-false a b h)
 
 -- the lesser is at most `high` exactly where one of the two is
-pub lesser-some : (high z so : ℤ) → leZ (lesser z so) high ≡ (leZ z high || leZ so high)
+lesser-some : (high z so : ℤ) → leZ (lesser z so) high ≡ (leZ z high || leZ so high)
 unfolding lesser
 lesser-some high z so = go (ltZ z so) refl
   where
@@ -59,7 +60,7 @@ lesser-some high z so = go (ltZ z so) refl
     go false h = or-weaker (leZ z high) (leZ so high) (leZ-trans so z high (ltZ-not z so h))
 
 -- the greater is at least `low` exactly where one of the two is
-pub greater-some : (low z so : ℤ) → leZ low (greater z so) ≡ (leZ low z || leZ low so)
+greater-some : (low z so : ℤ) → leZ low (greater z so) ≡ (leZ low z || leZ low so)
 unfolding greater
 greater-some low z so = go (ltZ so z) refl
   where
@@ -69,7 +70,7 @@ greater-some low z so = go (ltZ so z) refl
     go false h = or-weaker (leZ low z) (leZ low so) (λ k. leZ-trans low z so k (ltZ-not so z h))
 
 -- the box of z and the entries meets low..high exactly where its two sides say so
-pub meetsOnAxis-sides : (low high z : ℤ) (zs : List ℤ) → meetsOnAxis low high (z ∷ zs) ≡ (leZ (pickFrom lesser z zs) high && leZ low (pickFrom greater z zs))
+meetsOnAxis-sides : (low high z : ℤ) (zs : List ℤ) → meetsOnAxis low high (z ∷ zs) ≡ (leZ (pickFrom lesser z zs) high && leZ low (pickFrom greater z zs))
 unfolding meetsOnAxis someAtMost someAtLeast
 meetsOnAxis-sides low high z zs =
     sym

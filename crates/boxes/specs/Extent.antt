@@ -1,6 +1,5 @@
--- The two sides of the closed box round coordinates, on one axis: the least and the greatest.
+-- The lesser and the greater of two coordinates: what the sides of a closed box are picked by.
 use mathlib.Core.Bool.{cond}
-use mathlib.Core.List.{List, [], _∷_}
 use lib.IntN.{ℤ}
 use lib.Signed.{ltZ}
 
@@ -11,8 +10,3 @@ lesser a b = cond (ltZ a b) a b
 -- the greater of two numbers
 unfoldable pub greater : ℤ → ℤ → ℤ
 greater a b = cond (ltZ b a) a b
-
--- one number out of `so` and the entries, chosen by `pick` from the left
-unfoldable pub pickFrom : (ℤ → ℤ → ℤ) → ℤ → List ℤ → ℤ
-pickFrom pick so [] = so
-pickFrom pick so (z ∷ zs) = pickFrom pick (pick z so) zs

@@ -4,16 +4,13 @@ use mathlib.Core.List.{List, [], _∷_}
 use lib.IntN.{ℤ}
 use lib.Signed.{leZ}
 
--- some entry is at most `high`
-unfoldable pub someAtMost : ℤ → List ℤ → Bool
+unfoldable pub someAtMost : ℤ → List ℤ → Bool  -- some entry is at most `high`
 someAtMost high [] = false
 someAtMost high (z ∷ zs) = leZ z high || someAtMost high zs
 
--- some entry is at least `low`
-unfoldable pub someAtLeast : ℤ → List ℤ → Bool
+unfoldable pub someAtLeast : ℤ → List ℤ → Bool  -- some entry is at least `low`
 someAtLeast low [] = false
 someAtLeast low (z ∷ zs) = leZ low z || someAtLeast low zs
 
--- on this axis the box of the coordinates meets low..high, a shared side included
-unfoldable pub meetsOnAxis : ℤ → ℤ → List ℤ → Bool
+unfoldable pub meetsOnAxis : ℤ → ℤ → List ℤ → Bool  -- on this axis the box of the coordinates meets low..high, a shared side included
 meetsOnAxis low high zs = someAtMost high zs && someAtLeast low zs

@@ -1,2 +1,3 @@
 -- Laws of the carrying coordinates.
 pub mod CarryingLaws
+pub mod SentenceLaws

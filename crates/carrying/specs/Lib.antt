@@ -1,2 +1,3 @@
 -- The carrying coordinates of a parameter.
 pub mod Carrying
+pub mod Sentences

@@ -3,7 +3,8 @@ ghost use mathlib.Core.Path.{_≡_};
 ghost use Prim.Native.Nat.{_≤_, _<_};
 ghost use lib.ListN.{length};
 ghost use Rattle.domain.specs.Parameter.{parameterNumber};
-ghost use Rattle.carrying.specs.Carrying.{carryingOf, partOf};
+ghost use Rattle.span.specs.Span.{carryingOf};
+ghost use Rattle.carrying.specs.Carrying.{partOf};
 
 pub enum Axis {
     X,
@@ -13,7 +14,7 @@ pub enum Axis {
 // The entries i-m to i.
 fn part(ps: &[i32], m: usize, i: usize) -> &[i32]
     requires { ⌜ (m ≤ i) × (i < length (now ps)) ⌝ }
-    ensures result { λ r. ⌜ now r ≡ carryingOf m (now (ps .entry)) i ⌝ }
+    ensures result { λ r. ⌜ now r ≡ carryingOf m i (now (ps .entry)) ⌝ }
 {
     let end = i + 1;
     let first = end - (m + 1);

@@ -8,11 +8,12 @@ use native.Mathlib.Omega.{arith}
 use lib.Dec.{eqb}
 use lib.ListN.{length, getD, take, drop, length-take, length-drop}
 use lib.Seq.{getD-take, getD-drop}
-use borrow.Author.Tests.{eqb-true, eqb-false, not-true, not-false}
+use borrow.Author.Tests.{eqb-true, eqb-false, not-false}
 use Rattle.grid.specs.Rows.{firstKnot, lastKnot, allAre, endsOk}
-use Rattle.grid.proofs.OrderLaws.{both}
+use Rattle.refusal.proofs.JudgingLaws.{both}
+use Rattle.grid.proofs.EndLaws.{ends-differ}
 use Rattle.checked.specs.Sentences.{EndsWrong}
-use Rattle.checked.proofs.TestLaws.{one-fails, every-passes, some-fails}
+use Rattle.checked.proofs.TestLaws.{one-fails, every-passes, some-fails, Judged}
 
 -- every entry of a list is v, or one is not
 allAre-each : (v : ℕ) (l : List ℕ) → allAre v l ≡ true → (k : ℕ) → k < length l → getD l k 0 ≡ v
@@ -39,24 +40,25 @@ module _ (m : ℕ) (ts : List ℕ) where
   abbrev differ : Bool
   differ = not (eqb (firstKnot ts) (lastKnot ts))
 
-  pub ends-firsts : endsOk m ts ≡ true → (k : ℕ) → k < length ts → k < m + 1 → getD ts k 0 ≡ firstKnot ts
-  unfolding endsOk
-  ends-firsts h k i j =
-      let p = (both front back ((both (front && back) differ h) .0)) .0 in
-      rw (← getD-take (m + 1) ts k 0 j) (allAre-each (firstKnot ts) (take (m + 1) ts) p k (rw (length-take (m + 1) ts) (omega arith)))
+  -- both ends are of one value each, and they differ
+  abbrev pub Ended : Type 0
+  Ended =
+      ((k : ℕ) → k < length ts → k < m + 1 → getD ts k 0 ≡ firstKnot ts)
+      × ((k : ℕ) → k < length ts → length ts ≤ k + (m + 1) → getD ts k 0 ≡ lastKnot ts)
+      × (firstKnot ts ≡ lastKnot ts → ⊥)
 
-  pub ends-lasts : endsOk m ts ≡ true → (k : ℕ) → k < length ts → length ts ≤ k + (m + 1) → getD ts k 0 ≡ lastKnot ts
+  ends-facts : endsOk m ts ≡ true → Ended
   unfolding endsOk
-  ends-lasts h k i j =
-      let p = (both front back ((both (front && back) differ h) .0)) .1 in
-      let e : getD (drop start ts) (k - start) 0 ≡ getD ts k 0 = getD-drop start ts (k - start) 0 ∙ ap (λ x. getD ts x 0) (omega arith) in
-      sym e ∙ allAre-each (lastKnot ts) (drop start ts) p (k - start) (rw (length-drop start ts) (omega arith))
+  ends-facts h =
+      let p = both front back ((both (front && back) differ h) .0) in (
+        (λ k i j. rw (← getD-take (m + 1) ts k 0 j) (allAre-each (firstKnot ts) (take (m + 1) ts) (p .0) k (rw (length-take (m + 1) ts) (omega arith)))),
+        (λ k i j.
+            let e : getD (drop start ts) (k - start) 0 ≡ getD ts k 0 = getD-drop start ts (k - start) 0 ∙ ap (λ x. getD ts x 0) (omega arith) in
+            sym e ∙ allAre-each (lastKnot ts) (drop start ts) (p .1) (k - start) (rw (length-drop start ts) (omega arith))),
+        ends-differ m ts h,
+      )
 
-  pub ends-differ : endsOk m ts ≡ true → firstKnot ts ≡ lastKnot ts → ⊥
-  unfolding endsOk
-  ends-differ h = eqb-false (firstKnot ts) (lastKnot ts) (not-true (eqb (firstKnot ts) (lastKnot ts)) ((both (front && back) differ h) .1))
-
-  pub ends-wrong : endsOk m ts ≡ false → EndsWrong m ts
+  ends-wrong : endsOk m ts ≡ false → EndsWrong m ts
   unfolding endsOk
   ends-wrong h =
       ⊎-elim
@@ -77,9 +79,10 @@ module _ (m : ℕ) (ts : List ℕ) where
           let i : r .0 < length ts - start = rw (length-drop start ts) at (r .1) in
           inr (inl (start + r .0, omega arith, omega arith, rw (← getD-drop start ts (r .0) 0) (r .2)))
 
-  pub ends-clash : ((k : ℕ) → k < length ts → k < m + 1 → getD ts k 0 ≡ firstKnot ts)
-      → ((k : ℕ) → k < length ts → length ts ≤ k + (m + 1) → getD ts k 0 ≡ lastKnot ts)
-      → (firstKnot ts ≡ lastKnot ts → ⊥) → EndsWrong m ts → ⊥
-  ends-clash firsts lasts differ (inl (k, i, j, n)) = n (firsts k i j)
-  ends-clash firsts lasts differ (inr (inl (k, i, j, n))) = n (lasts k i j)
-  ends-clash firsts lasts differ (inr (inr e)) = differ e
+  ends-clash : Ended → EndsWrong m ts → ⊥
+  ends-clash e (inl (k, i, j, n)) = n (e .0 k i j)
+  ends-clash e (inr (inl (k, i, j, n))) = n (e .1 k i j)
+  ends-clash e (inr (inr same)) = e .2 same
+
+  pub ends-judged : Judged (endsOk m ts) Ended (EndsWrong m ts)
+  ends-judged = record { passing = ends-facts; failing = ends-wrong; clash = ends-clash }

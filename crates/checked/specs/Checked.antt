@@ -30,12 +30,3 @@ pub record Checked (m : ℕ) (ts : List ℕ) (xs ys : List ℤ) : Type 0 where
   pub outer : (v : ℕ) → occurrences v ts ≤ m + 1
   pub gridX : (a : ℕ) → a < length xs → OnGrid (getD xs a (pos 0))
   pub gridY : (a : ℕ) → a < length ys → OnGrid (getD ys a (pos 0))
-
--- what holds of a rectangle that is not refused 14
-pub record CheckedRectangle (lowX highX lowY highY : ℤ) : Type 0 where
-  pub sidesX : lowX ≤ℤ highX
-  pub sidesY : lowY ≤ℤ highY
-  pub gridLowX : OnGrid lowX
-  pub gridHighX : OnGrid highX
-  pub gridLowY : OnGrid lowY
-  pub gridHighY : OnGrid highY

@@ -1,11 +1,12 @@
--- The rows 1 to 7, and 14, of the heading "Numbers of refusal", each as a sentence over all entries: it holds where the row applies.
-use mathlib.Core.List.{List, [], _∷_}
+-- The rows 1 to 7 and 14 of the heading "Numbers of refusal", each as a sentence over all entries: it holds where the row applies.
+use mathlib.Core.List.{List, _∷_}
 use mathlib.Core.Logic.{_⊎_}
 use mathlib.Core.Path.{_≡_}
 use Prim.Native.Nat.{ℕ, _+_, _≤_, _<_}
 use lib.IntN.{ℤ, pos, negℤ}
 use lib.ListN.{length, getD}
 use lib.Signed.{_<ℤ_}
+use Rattle.refusal.specs.Chain.{Row, row}
 use Rattle.grid.specs.Limits.{pointsMost, knotMost, coordinateMost}
 use Rattle.grid.specs.Rows.{firstKnot, lastKnot, occurrences}
 
@@ -17,7 +18,7 @@ DegreeWrong m = (m ≡ 1 → ⊥) × (m ≡ 2 → ⊥) × (m ≡ 3 → ⊥)
 abbrev pub PointCountWrong : ℕ → List ℤ → List ℤ → Type 0
 PointCountWrong m xs ys = (length xs ≡ length ys → ⊥) ⊎ (length xs < m + 1) ⊎ (pointsMost < length xs)
 
--- row 3: the number of knots is not points + m + 1
+-- row 3: knots are not as many as the points and m + 1 more
 abbrev pub KnotCountWrong : ℕ → List ℕ → List ℤ → Type 0
 KnotCountWrong m ts xs = length ts ≡ length xs + m + 1 → ⊥
 
@@ -49,23 +50,22 @@ abbrev pub RangeWrong : List ℤ → List ℤ → Type 0
 RangeWrong xs ys =
     ((k : ℕ) × (k < length xs) × OffGrid (getD xs k (pos 0))) ⊎ ((k : ℕ) × (k < length ys) × OffGrid (getD ys k (pos 0)))
 
--- row 14: a low side is above its high side, or a side is beyond the grid
+-- on one axis the low side is above the high side, or a side is beyond the grid
+abbrev pub AxisWrong : ℤ → ℤ → Type 0
+AxisWrong low high = (high <ℤ low) ⊎ OffGrid low ⊎ OffGrid high
+
+-- row 14: a rectangle is wrong on one of its axes
 abbrev pub RectangleWrong : ℤ → ℤ → ℤ → ℤ → Type 0
-RectangleWrong lowX highX lowY highY =
-    (highX <ℤ lowX) ⊎ (highY <ℤ lowY) ⊎ OffGrid lowX ⊎ OffGrid highX ⊎ OffGrid lowY ⊎ OffGrid highY
+RectangleWrong lowX highX lowY highY = AxisWrong lowX highX ⊎ AxisWrong lowY highY
 
--- the seven sentences in the order of their rows
-abbrev pub rowSentences : ℕ → List ℕ → List ℤ → List ℤ → List (Type 0)
-rowSentences m ts xs ys =
-    DegreeWrong m
-    ∷ PointCountWrong m xs ys
-    ∷ KnotCountWrong m ts xs
-    ∷ KnotOrderWrong ts
-    ∷ EndsWrong m ts
-    ∷ RepeatsWrong m ts
-    ∷ RangeWrong xs ys
-    ∷ []
-
--- the sentence of row n, counted from 1; it is false where there is no row n
-abbrev pub RowApplies : ℕ → ℕ → List ℕ → List ℤ → List ℤ → Type 0
-RowApplies n m ts xs ys = getD (⊥ ∷ rowSentences m ts xs ys) n ⊥
+-- the seven rows in their order, and behind them those that a call judges of a curve that passes
+abbrev pub curveRows : ℕ → List ℕ → List ℤ → List ℤ → List Row → List Row
+curveRows m ts xs ys rest =
+    row 1 (DegreeWrong m)
+    ∷ row 2 (PointCountWrong m xs ys)
+    ∷ row 3 (KnotCountWrong m ts xs)
+    ∷ row 4 (KnotOrderWrong ts)
+    ∷ row 5 (EndsWrong m ts)
+    ∷ row 6 (RepeatsWrong m ts)
+    ∷ row 7 (RangeWrong xs ys)
+    ∷ rest

@@ -2,120 +2,88 @@
 use job::JobAnswer;
 use libc::STDIN_FILENO;
 use libc::STDOUT_FILENO;
-ghost use Prim.Native.Nat.{_≤_};
+ghost use mathlib.Core.Path.{_≡_};
+ghost use Prim.Native.Nat.{_+_, _≤_, _<_};
 ghost use lib.ListN.{length};
+ghost use Rattle.io.specs.Counts.{Counts};
+ghost use Rattle.curve.specs.Lists.{lists};
+ghost use Rattle.grid.specs.Limits.{clampsMost, jobMost};
+ghost use Rattle.clamp_lines.specs.Places.{textMost};
+ghost use Rattle.job_text.specs.Text.{PartOf};
+ghost use Rattle.job_text.specs.Program.{Places, ReadInPlaces};
 
-// Writes the first n bytes of a text. What cannot be written is lost.
-fn write_front(text: &[u8], n: usize)
-    requires { ⌜ n ≤ length (now text) ⌝ }
+// Writes part k of the text of the job, asks that it be that part, and answers the number of the next. What cannot be written is lost.
+fn write_part(job: &[u8], k: usize, part: &[u8]) -> usize
+    requires { ⌜ (k ≤ clampsMost) × PartOf (now job) k (now part) ⌝ }
+    ensures count { λ r. ⌜ r ≡ k + 1 ⌝ }
 {
-    io::write_all(STDOUT_FILENO, &text[..n]);
+    io::write_all(STDOUT_FILENO, part);
+    k + 1
 }
 
-// A refusal.
-fn tell_refusal(number: u32, text: &mut [u8]) {
-    let n = report::refused_text(number, text);
-    write_front(text, n);
-}
-
-// One clamp after the other.
-fn tell_clamps(
-    degree: u32,
+// Writes the parts of the text one after the other, and answers how many: as many as make the whole text.
+fn write_parts(
+    job: &[u8],
+    answer: JobAnswer,
     knots: &[u16],
     xs: &[i32],
     ys: &[i32],
-    clamps: &[i32],
-    count: usize,
-    lows: &mut [u16],
-    highs: &mut [u16],
+    sides: &[i32],
     text: &mut [u8],
-) {
+) -> usize
+    requires { ⌜ ReadInPlaces (now job) answer (lists (now knots) (now xs) (now ys)) (now sides) × (textMost ≤ length (now text)) ⌝ }
+    ensures count { λ r. ⌜ r ≡ clampsMost + 1 ⌝ }
+{
     let mut k = 0;
-    while k < count {
-        let n = report::clamp_text(degree, knots, xs, ys, clamps, k, lows, highs, text);
-        write_front(text, n);
-        k += 1;
+    while k <= grid::CLAMPS_MOST {
+        let n = report::put_part(answer, knots, xs, ys, sides, k, text);
+        k = write_part(job, k, &text[..n]);
     }
+    k
 }
 
-// The curve, then its clamps.
-fn tell_curve(
-    degree: u32,
-    knots: &[u16],
-    xs: &[i32],
-    ys: &[i32],
-    clamps: &[i32],
-    count: usize,
-    text: &mut [u8],
-) {
-    let n = report::curve_text(degree, xs.len(), knots, text);
-    write_front(text, n);
-    let mut lows = [0u16; 1023];
-    let mut highs = [0u16; 1023];
-    tell_clamps(
-        degree,
-        knots,
-        xs,
-        ys,
-        clamps,
-        count,
-        &mut lows,
-        &mut highs,
-        text,
-    );
-}
-
-// A job, read into the places lent for its curve and its clamps.
-fn tell_job(
+// Reads a job into places for the longest one, and writes its text.
+fn tell(
     job: &[u8],
     knots: &mut [u16],
     xs: &mut [i32],
     ys: &mut [i32],
-    clamps: &mut [i32],
+    sides: &mut [i32],
     text: &mut [u8],
-) {
-    match job::read_job(job, knots, xs, ys, clamps) {
-        JobAnswer::Refused(number) => tell_refusal(number, text),
-        JobAnswer::Job {
-            degree,
-            points,
-            clamps: count,
-        } => {
-            let end = points + degree as usize + 1;
-            let sides = 4 * count;
-            tell_curve(
-                degree,
-                &knots[..end],
-                &xs[..points],
-                &ys[..points],
-                &clamps[..sides],
-                count,
-                text,
-            );
-        }
-    }
+)
+    requires { ⌜ Places (lists (now knots) (now xs) (now ys)) (now sides) × (textMost ≤ length (now text)) ⌝ }
+{
+    let answer = job::read_job(job, knots, xs, ys, sides);
+    write_parts(job, answer, knots, xs, ys, sides, text);
 }
 
-// The places for a job, all zero at the start.
-fn tell(job: &[u8]) {
-    let mut knots = [0u16; 1028];
-    let mut xs = [0i32; 1024];
-    let mut ys = [0i32; 1024];
-    let mut clamps = [0i32; 256];
-    let mut text = [0u8; 31713];
-    tell_job(
+// The places.
+fn tell_in_places(job: &[u8]) {
+    let mut knots = [0u16; grid::KNOTS_MOST];
+    let mut xs = [0i32; grid::POINTS_MOST];
+    let mut ys = [0i32; grid::POINTS_MOST];
+    let mut sides = [0i32; grid::SIDES_MOST];
+    let mut text = [0u8; report::TEXT_MOST];
+    tell(
         job,
-        &mut knots[..1028],
-        &mut xs[..1024],
-        &mut ys[..1024],
-        &mut clamps[..256],
-        &mut text[..31713],
+        &mut knots[..grid::KNOTS_MOST],
+        &mut xs[..grid::POINTS_MOST],
+        &mut ys[..grid::POINTS_MOST],
+        &mut sides[..grid::SIDES_MOST],
+        &mut text[..report::TEXT_MOST],
     );
 }
 
-// There is room for one byte more than the longest job has, so that a longer one is seen.
+// Reads all input. Where it is longer than the longest job, a byte too many shows it.
+fn read_input(input: &mut [u8]) -> usize
+    requires { ⌜ jobMost < length (now input) ⌝ }
+    ensures count { λ r. ⌜ Counts r (now (input .exit)) ⌝ }
+{
+    io::read_full(STDIN_FILENO, input)
+}
+
 fn main() {
-    let mut input = [0u8; 11478];
-    let n = io::read_full(STDIN_FILENO, &mut input);
-    tell(&input[..n]);
+    let mut input = [0u8; grid::JOB_MOST + 1];
+    let n = read_input(&mut input);
+    tell_in_places(&input[..n]);
 }

@@ -12,8 +12,9 @@ use mir.Syntax.{w32}
 use mir.Val.{SFits}
 use mir.Facts.{sfits-toZ, sfits-lit}
 use borrow.Author.Tests.{leb-true, eqb-false}
+use Rattle.grid.specs.Limits.{headBytes, clampBytes}
 use Rattle.fields.specs.Bytes.{fieldBytes, coordinateBytes, Octets}
-use Rattle.fields.specs.Places.{i32At, coordinatesAt}
+use Rattle.fields.specs.Places.{i32At}
 use Rattle.format.proofs.EntryLaws.{coordinates-exact, bits-fit, entries-all}
 use Rattle.format.proofs.InjectiveLaws.{field-injective, coordinates-injective, each-injective}
 use Rattle.layout.specs.Judging.{fieldAt}
@@ -23,7 +24,7 @@ use Rattle.layout.specs.declared.Taken.{Taken}
 use Rattle.layout.specs.declared.Taken.the-variants.{Field, Broken as Untaken}
 use Rattle.layout.proofs.SplitLaws.{Whole, field-known, field-split, field-found, length-least, length-most, length-right}
 use Rattle.layout.proofs.RecordLaws.{behind}
-use Rattle.clamps.specs.Clamp.{Clamp, ClampFits, noClamp, sides, clampTag, clampField, clampFields, clampAt, clampsAt}
+use Rattle.clamps.specs.Clamp.{clampSides, sideBytes, clampFieldBytes, Clamp, ClampFits, noClamp, sides, clampTag, clampField, clampFields, clampAt, clampsAt}
 use Rattle.clamps.specs.Tail.{clampRule, thenClamps, clampsFrom}
 use Rattle.clamps.specs.declared.Tail.{Tail}
 use Rattle.clamps.specs.declared.Tail.the-variants.{Clamps, Broken}
@@ -34,31 +35,27 @@ broken-tail fault n e = let z : _≡_ {A = ℕ} 0 1 = cc in omega arith
 
 -- clamps from a place to the end of the bytes, `many` of them
 pub record Run (bytes : List ℕ) (at many : ℕ) : Type 0 where
-  pub ends : at + 19 * many ≡ length bytes
+  pub ends : at + clampFieldBytes * many ≡ length bytes
   pub same : drop at bytes ≡ clampFields (clampsAt bytes at many)
 
 module _ (bytes : List ℕ) (octets : Octets bytes) where
   -- one field that was taken is the field of the clamp that stands there
-  field-clamp : (at len : ℕ) → fieldAt clampRule bytes at ≡ Field len → drop at bytes ≡ clampField (clampAt bytes at) ++ drop (at + 19) bytes
+  field-clamp : (at len : ℕ) → fieldAt clampRule bytes at ≡ Field len → drop at bytes ≡ clampField (clampAt bytes at) ++ drop (at + clampFieldBytes) bytes
   field-clamp at len e =
       let whole : Whole clampRule bytes at len = field-known clampRule bytes at len e in
-      let size : len ≡ 16 = omega (arith, length-least clampRule len (whole .right), length-most clampRule len (whole .right)) in
-      let inside : at + 3 + 4 * 4 ≤ length bytes = omega (arith, whole .inside) in
-      let contents : take len (drop (at + 3) bytes) ≡ coordinateBytes (coordinatesAt bytes (at + 3) 4) =
-      ap (λ (n : ℕ). take n (drop (at + 3) bytes)) size ∙ sym (coordinates-exact bytes octets (at + 3) 4 inside) in
-      let second : at + 3 + 4 ≡ at + 7 = omega arith in
-      let third : at + 3 + 4 + 4 ≡ at + 11 = omega arith in
-      let fourth : at + 3 + 4 + 4 + 4 ≡ at + 15 = omega arith in
-      let stands : coordinatesAt bytes (at + 3) 4 ≡ sides (clampAt bytes at) = rw (fourth, third, second) in
-      let end : at + 3 + len ≡ at + 19 = omega arith in
+      let size : len ≡ clampBytes = omega (arith, length-least clampRule len (whole .right), length-most clampRule len (whole .right)) in
+      let inside : at + headBytes + sideBytes * clampSides ≤ length bytes = omega (arith, whole .inside) in
+      let contents : take len (drop (at + headBytes) bytes) ≡ coordinateBytes (sides (clampAt bytes at)) =
+      ap (λ (n : ℕ). take n (drop (at + headBytes) bytes)) size ∙ sym (coordinates-exact bytes octets (at + headBytes) clampSides inside) in
+      let end : at + headBytes + len ≡ at + clampFieldBytes = omega arith in
       field-split clampRule bytes at len octets whole
-      ∙ ap (λ (l : List ℕ). fieldBytes clampTag l ++ drop (at + 3 + len) bytes) (contents ∙ ap coordinateBytes stands)
+      ∙ ap (λ (l : List ℕ). fieldBytes clampTag l ++ drop (at + headBytes + len) bytes) contents
       ∙ ap (λ (k : ℕ). clampField (clampAt bytes at) ++ drop k bytes) end
 
   run-none : (at : ℕ) → at ≤ length bytes → length bytes ≤ at → Run bytes at 0
   run-none at h k = record { ends = omega arith; same = drop-of-length-le bytes k }
 
-  run-more : (at len k : ℕ) → fieldAt clampRule bytes at ≡ Field len → Run bytes (at + 19) k → Run bytes at (suc k)
+  run-more : (at len k : ℕ) → fieldAt clampRule bytes at ≡ Field len → Run bytes (at + clampFieldBytes) k → Run bytes at (suc k)
   run-more at len k e r =
       record {
         ends = omega (arith, r .ends);
@@ -79,14 +76,14 @@ module _ (bytes : List ℕ) (octets : Octets bytes) where
   counted-last at count n inside true b e = counted-none 0 at count n inside b e
   counted-last at count n inside false b e = absurd (broken-tail (LeftOver at) n e)
 
-  counted-taken : (left at count n : ℕ) (next : Tail) → (at + 19 ≤ length bytes → next ≡ Clamps n → Counted left (at + 19) (count + 1) n)
+  counted-taken : (left at count n : ℕ) (next : Tail) → (at + clampFieldBytes ≤ length bytes → next ≡ Clamps n → Counted left (at + clampFieldBytes) (count + 1) n)
       → (t : Taken) → fieldAt clampRule bytes at ≡ t → thenClamps t next ≡ Clamps n → Counted (suc left) at count n
   counted-taken left at count n next others (Untaken fault) f e = absurd (broken-tail fault n e)
   counted-taken left at count n next others (Field len) f e =
       let rest = others (clamp-inside bytes at len f) e in
       (suc (rest .0), omega (arith, rest .1), omega (arith, rest .2), run-more at len (rest .0) f (rest .3))
 
-  counted-more : (left at count n : ℕ) (next : Tail) → at ≤ length bytes → (at + 19 ≤ length bytes → next ≡ Clamps n → Counted left (at + 19) (count + 1) n)
+  counted-more : (left at count n : ℕ) (next : Tail) → at ≤ length bytes → (at + clampFieldBytes ≤ length bytes → next ≡ Clamps n → Counted left (at + clampFieldBytes) (count + 1) n)
       → (b : Bool) → leb (length bytes) at ≡ b → cond b (Clamps count) (thenClamps (fieldAt clampRule bytes at) next) ≡ Clamps n → Counted (suc left) at count n
   counted-more left at count n next inside others true b e = counted-none (suc left) at count n inside b e
   counted-more left at count n next inside others false b e = counted-taken left at count n next others (fieldAt clampRule bytes at) refl e
@@ -96,7 +93,7 @@ module _ (bytes : List ℕ) (octets : Octets bytes) where
   unfolding clampsFrom
   clamps-known zero at count n inside e = counted-last at count n inside (leb (length bytes) at) refl e
   clamps-known (suc left) at count n inside e =
-      counted-more left at count n (clampsFrom left bytes (at + 19) (count + 1)) inside (λ i f. clamps-known left (at + 19) (count + 1) n i f)
+      counted-more left at count n (clampsFrom left bytes (at + clampFieldBytes) (count + 1)) inside (λ i f. clamps-known left (at + clampFieldBytes) (count + 1) n i f)
       (leb (length bytes) at) refl e
 
 -- some clamps' bytes behind a place are counted there
@@ -107,23 +104,23 @@ clamps-found bytes [] left at count inside e few =
     tail-done bytes at count left (omega arith) ∙ ap Clamps (sym (add-zero count))
 clamps-found bytes (c ∷ cs) zero at count inside e few = absurd (omega arith)
 clamps-found bytes (c ∷ cs) (suc left) at count inside e few =
-    let size : length bytes - at ≡ 19 + length (clampFields cs) =
+    let size : length bytes - at ≡ clampFieldBytes + length (clampFields cs) =
     sym (length-drop at bytes) ∙ ap length e ∙ length-append (clampField c) (clampFields cs) in
-    let taken : fieldAt clampRule bytes at ≡ Field 16 =
+    let taken : fieldAt clampRule bytes at ≡ Field clampBytes =
     field-found clampRule bytes (coordinateBytes (sides c)) (clampFields cs) at (lit< tt)
-    (length-right clampRule 16 (lit≤ tt) (lit≤ tt) (eqb-false 16 0 refl) refl) e in
-    let rest : drop (at + 19) bytes ≡ clampFields cs = behind at (at + 19) clampTag bytes (coordinateBytes (sides c)) (clampFields cs) refl e in
+    (length-right clampRule clampBytes (lit≤ tt) (lit≤ tt) (eqb-false clampBytes 0 refl) refl) e in
+    let rest : drop (at + clampFieldBytes) bytes ≡ clampFields cs = behind at (at + clampFieldBytes) clampTag bytes (coordinateBytes (sides c)) (clampFields cs) refl e in
     let total : count + 1 + length cs ≡ count + suc (length cs) = omega arith in
-    tail-next bytes at count (omega arith) (suc left) left 16 refl taken
-    ∙ clamps-found bytes cs left (at + 19) (count + 1) (omega arith) rest (omega arith)
+    tail-next bytes at count (omega arith) (suc left) left clampBytes refl taken
+    ∙ clamps-found bytes cs left (at + clampFieldBytes) (count + 1) (omega arith) rest (omega arith)
     ∙ ap Clamps total
 
 -- the sides that stand in bytes are 32-bit numbers
 pub clamps-fit : (bytes : List ℕ) → Octets bytes → (at count i : ℕ) → ClampFits (getD (clampsAt bytes at count) i noClamp)
 clamps-fit bytes octets at count i =
     let side : (k : ℕ) → SFits w32 (i32At bytes k) = λ k. sfits-toZ (bits-fit bytes octets k) in
-    entries-all (clampAt bytes) 19 noClamp ClampFits
-    (λ k. record { lowX = side (k + 3); highX = side (k + 7); lowY = side (k + 11); highY = side (k + 15) })
+    entries-all (clampAt bytes) clampFieldBytes noClamp ClampFits
+    (λ k. record { lowX = side _; highX = side _; lowY = side _; highY = side _ })
     (record { lowX = sfits-lit tt; highX = sfits-lit tt; lowY = sfits-lit tt; highY = sfits-lit tt }) at count i
 
 -- a clamp's sides fit, side by side

@@ -2,3 +2,5 @@
 pub mod TailLaws
 pub mod SideLaws
 pub mod ClampLaws
+pub mod SentenceLaws
+pub mod Controls

@@ -10,11 +10,12 @@ use Rattle.layout.specs.declared.Fault.{Fault}
 use Rattle.layout.specs.declared.Fault.the-variants.{LeftOver}
 use Rattle.layout.specs.declared.Taken.the-variants.{Field, Broken as Untaken}
 use Rattle.layout.proofs.SplitLaws.{field-known, length-least}
+use Rattle.clamps.specs.Clamp.{clampFieldBytes}
 use Rattle.clamps.specs.Tail.{clampRule, clampsFrom}
 use Rattle.clamps.specs.declared.Tail.the-variants.{Clamps, Broken}
 
--- a clamp's field that was taken has 19 bytes
-pub clamp-inside : (bytes : List ℕ) (at len : ℕ) → fieldAt clampRule bytes at ≡ Field len → at + 19 ≤ length bytes
+-- a clamp's field that was taken stands within the bytes
+pub clamp-inside : (bytes : List ℕ) (at len : ℕ) → fieldAt clampRule bytes at ≡ Field len → at + clampFieldBytes ≤ length bytes
 clamp-inside bytes at len e =
     let whole = field-known clampRule bytes at len e in
     omega (arith, whole .inside, length-least clampRule len (whole .right))
@@ -36,6 +37,6 @@ module _ (bytes : List ℕ) (at count : ℕ) where
     tail-broken (suc left) fault h e = rw (lt-leb (length bytes) at more, e)
 
     pub tail-next : (left next len : ℕ) → left ≡ suc next → fieldAt clampRule bytes at ≡ Field len
-        → clampsFrom left bytes at count ≡ clampsFrom next bytes (at + 19) (count + 1)
+        → clampsFrom left bytes at count ≡ clampsFrom next bytes (at + clampFieldBytes) (count + 1)
     unfolding clampsFrom
     tail-next left next len n e = ap (λ (k : ℕ). clampsFrom k bytes at count) n ∙ rw (lt-leb (length bytes) at more, e)

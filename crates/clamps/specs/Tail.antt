@@ -1,4 +1,4 @@
--- How the fields behind a record are judged (heading "The record on disk"): clamps until the bytes end, at most 64.
+-- How the fields behind a record are judged (heading "The record on disk"): clamps until the bytes end, no more than a job has.
 use mathlib.Core.Bool.{cond}
 use mathlib.Core.List.{List}
 use Prim.Native.Nat.{ℕ, zero, suc, _+_}
@@ -10,11 +10,11 @@ use Rattle.layout.specs.declared.Rule.{Rule}
 use Rattle.layout.specs.declared.Fault.the-variants.{LeftOver}
 use Rattle.layout.specs.declared.Taken.{Taken}
 use Rattle.layout.specs.declared.Taken.the-variants.{Field, Broken as Untaken}
-use Rattle.clamps.specs.Clamp.{clampTag}
+use Rattle.clamps.specs.Clamp.{clampTag, clampFieldBytes}
 use Rattle.clamps.specs.declared.Tail.{Tail}
 use Rattle.clamps.specs.declared.Tail.the-variants.{Clamps, Broken}
 
--- a clamp's field: 16 bytes
+-- a clamp's field
 abbrev pub clampRule : Rule
 clampRule = record { tag = clampTag; least = clampBytes; most = clampBytes; width = clampBytes }
 
@@ -27,7 +27,7 @@ thenClamps (Untaken fault) next = Broken fault
 unfoldable pub clampsFrom : ℕ → List ℕ → ℕ → ℕ → Tail
 clampsFrom zero bytes at count = cond (leb (length bytes) at) (Clamps count) (Broken (LeftOver at))
 clampsFrom (suc left) bytes at count =
-    cond (leb (length bytes) at) (Clamps count) (thenClamps (fieldAt clampRule bytes at) (clampsFrom left bytes (at + 19) (count + 1)))
+    cond (leb (length bytes) at) (Clamps count) (thenClamps (fieldAt clampRule bytes at) (clampsFrom left bytes (at + clampFieldBytes) (count + 1)))
 
 -- behind a record that ends at a place
 abbrev pub clampsBehind : List ℕ → ℕ → Tail

@@ -8,8 +8,17 @@ ghost use lib.ListN.{length};
 ghost use Rattle.lent.specs.Lent.{over};
 ghost use Rattle.grid.specs.Rows.{rectangleOk};
 ghost use Rattle.fields.specs.Places.{putAt};
-ghost use Rattle.clamps.specs.Clamp.{clampAt, clampsAt, clampsOk, sides, allSides};
+ghost use Rattle.clamps.specs.Clamp.{clampSides, clampFieldBytes, clampAt, clampsAt, clampsOk, sides, allSides};
 ghost use Rattle.clamps.specs.Tail.{clampRule, clampsBehind};
+
+// The tag of a clamp's field; the sides of a clamp and the bytes of each; and the bytes of the whole field.
+const CLAMP_TAG: u8 = 5;
+
+pub const CLAMP_SIDES: usize = 4;
+
+const SIDE_BYTES: usize = 4;
+
+const CLAMP_FIELD_BYTES: usize = grid::HEAD_BYTES + grid::CLAMP_BYTES;
 
 // How many clamps there are, or the leftmost fault.
 pub enum Tail {
@@ -22,10 +31,10 @@ fn clamp_rule() -> Rule
     ensures answer { λ r. ⌜ r ≡ clampRule ⌝ }
 {
     Rule {
-        tag: 5,
-        least: 16,
-        most: 16,
-        width: 16,
+        tag: CLAMP_TAG,
+        least: grid::CLAMP_BYTES,
+        most: grid::CLAMP_BYTES,
+        width: grid::CLAMP_BYTES,
     }
 }
 
@@ -36,7 +45,7 @@ pub fn clamps_behind(bytes: &[u8], start: usize) -> Tail
     let mut at = start;
     let mut count = 0;
     while at < bytes.len() {
-        if count == 64 {
+        if count == grid::CLAMPS_MOST {
             return Tail::Broken(Fault::LeftOver(at));
         }
         match layout::take_field(bytes, at, clamp_rule()) {
@@ -44,7 +53,7 @@ pub fn clamps_behind(bytes: &[u8], start: usize) -> Tail
                 return Tail::Broken(fault);
             }
             Taken::Field(_) => {
-                at += 19;
+                at += CLAMP_FIELD_BYTES;
                 count += 1;
             }
         }
@@ -54,21 +63,26 @@ pub fn clamps_behind(bytes: &[u8], start: usize) -> Tail
 
 // Row 14 for the clamp whose field begins at `at`.
 fn clamp_ok(bytes: &[u8], at: usize) -> bool
-    requires { ⌜ at + 19 ≤ length (now bytes) ⌝ }
+    requires { ⌜ at + clampFieldBytes ≤ length (now bytes) ⌝ }
     ensures answer { λ r. ⌜ r
         ≡ rectangleOk (clampAt (now (bytes .entry)) at .lowX) (clampAt (now (bytes .entry)) at .highX) (clampAt (now (bytes .entry)) at .lowY)
         (clampAt (now (bytes .entry)) at .highY) ⌝ }
 {
-    let low_x = fields::get_i32(bytes, at + 3);
-    let high_x = fields::get_i32(bytes, at + 7);
-    let low_y = fields::get_i32(bytes, at + 11);
-    let high_y = fields::get_i32(bytes, at + 15);
-    grid::sides_ok(low_x, high_x, low_y, high_y)
+    let on_low_x = at + grid::HEAD_BYTES;
+    let on_high_x = on_low_x + SIDE_BYTES;
+    let on_low_y = on_high_x + SIDE_BYTES;
+    let on_high_y = on_low_y + SIDE_BYTES;
+    grid::sides_ok(
+        fields::get_i32(bytes, on_low_x),
+        fields::get_i32(bytes, on_high_x),
+        fields::get_i32(bytes, on_low_y),
+        fields::get_i32(bytes, on_high_y),
+    )
 }
 
 // Row 14 for every clamp.
 pub fn clamps_ok(bytes: &[u8], start: usize, count: usize) -> bool
-    requires { ⌜ start + 19 * count ≤ length (now bytes) ⌝ }
+    requires { ⌜ start + clampFieldBytes * count ≤ length (now bytes) ⌝ }
     ensures answer { λ r. ⌜ r ≡ clampsOk (clampsAt (now (bytes .entry)) start count) ⌝ }
 {
     let mut at = start;
@@ -77,7 +91,7 @@ pub fn clamps_ok(bytes: &[u8], start: usize, count: usize) -> bool
         if !clamp_ok(bytes, at) {
             return false;
         }
-        at += 19;
+        at += CLAMP_FIELD_BYTES;
         i += 1;
     }
     true
@@ -85,22 +99,15 @@ pub fn clamps_ok(bytes: &[u8], start: usize, count: usize) -> bool
 
 // Puts a clamp's four sides into a list of sides from `to` on.
 fn put_sides(bytes: &[u8], at: usize, out: &mut [i32], to: usize)
-    requires { ⌜ (at + 19 ≤ length (now bytes)) × (to + 4 ≤ length (now out)) ⌝ }
+    requires { ⌜ (at + clampFieldBytes ≤ length (now bytes)) × (to + clampSides ≤ length (now out)) ⌝ }
     ensures result { λ _. ⌜ now (out .exit) ≡ putAt (now (out .entry)) to (sides (clampAt (now (bytes .entry)) at)) ⌝ }
 {
-    let low_x = fields::get_i32(bytes, at + 3);
-    let high_x = fields::get_i32(bytes, at + 7);
-    let low_y = fields::get_i32(bytes, at + 11);
-    let high_y = fields::get_i32(bytes, at + 15);
-    out[to] = low_x;
-    out[to + 1] = high_x;
-    out[to + 2] = low_y;
-    out[to + 3] = high_y;
+    fields::read_coordinates(bytes, at + grid::HEAD_BYTES, CLAMP_SIDES, &mut out[to..]);
 }
 
 // Reads every clamp's sides into the front of `out`.
 pub fn read_clamps(bytes: &[u8], start: usize, count: usize, out: &mut [i32])
-    requires { ⌜ (start + 19 * count ≤ length (now bytes)) × (4 * count ≤ length (now out)) ⌝ }
+    requires { ⌜ (start + clampFieldBytes * count ≤ length (now bytes)) × (clampSides * count ≤ length (now out)) ⌝ }
     ensures result { λ _. ⌜ now (out .exit) ≡ over (allSides (clampsAt (now (bytes .entry)) start count)) (now (out .entry)) ⌝ }
 {
     let mut at = start;
@@ -108,8 +115,8 @@ pub fn read_clamps(bytes: &[u8], start: usize, count: usize, out: &mut [i32])
     let mut i = 0;
     while i < count {
         put_sides(bytes, at, out, to);
-        at += 19;
-        to += 4;
+        at += CLAMP_FIELD_BYTES;
+        to += CLAMP_SIDES;
         i += 1;
     }
 }

@@ -1,2 +1,3 @@
 -- Laws of the compaction call.
 pub mod OutcomeLaws
+pub mod SentenceLaws

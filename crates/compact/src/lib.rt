@@ -1,8 +1,8 @@
 // Compacting a curve ("Inserting and removing a knot"): the call, for any input.
-mod answering;
-mod through;
+mod front;
+mod work_lists;
 
-ghost use Rattle.compaction.specs.Compaction.{Curve};
+ghost use Rattle.curve.specs.Lists.{lists};
 ghost use Rattle.compact.specs.Outcome.{CompactOutcome};
 
 // The number of knots that were removed, or why the call is refused.
@@ -21,7 +21,9 @@ pub fn compact(
     out_xs: &mut [i32],
     out_ys: &mut [i32],
 ) -> CompactAnswer
-    ensures answer { λ r. ⌜ CompactOutcome degree (record { knots = now (knots .entry); xs = now (xs .entry); ys = now (ys .entry) }) (now («out_knots» .entry)) (now («out_xs» .entry)) (now («out_ys» .entry)) r (now («out_knots» .exit)) (now («out_xs» .exit)) (now («out_ys» .exit)) ⌝ }
+    ensures answer { λ r. ⌜ CompactOutcome degree (lists (now (knots .entry)) (now (xs .entry)) (now (ys .entry)))
+        (lists (now («out_knots» .entry)) (now («out_xs» .entry)) (now («out_ys» .entry))) r
+        (lists (now («out_knots» .exit)) (now («out_xs» .exit)) (now («out_ys» .exit))) ⌝ }
 {
     let number = grid::check(degree, knots, xs, ys);
     if number != refusal::ACCEPTED {
@@ -31,13 +33,10 @@ pub fn compact(
     let points = xs.len();
     if points == m + 1 {
         // no inner knot: nothing can go
-        return answering::answer_with(m, points, points, knots, xs, ys, out_knots, out_xs, out_ys);
+        return front::hand_front(m, points, points, knots, xs, ys, out_knots, out_xs, out_ys);
     }
-    if points <= through::SHORT {
-        return through::compact_short(m, knots, xs, ys, out_knots, out_xs, out_ys);
+    if points <= work_lists::SHORT {
+        return work_lists::compact_short(m, knots, xs, ys, out_knots, out_xs, out_ys);
     }
-    if points <= through::MIDDLE {
-        return through::compact_middle(m, knots, xs, ys, out_knots, out_xs, out_ys);
-    }
-    through::compact_longest(m, knots, xs, ys, out_knots, out_xs, out_ys)
+    work_lists::compact_longest(m, knots, xs, ys, out_knots, out_xs, out_ys)
 }

@@ -7,7 +7,7 @@ use lib.IntN.{ℤ}
 use lib.ListN.{length, take, drop}
 use lib.Seq.{take-all, take-at}
 use Rattle.lent.specs.Lent.{over}
-use Rattle.compaction.specs.Compaction.{Curve}
+use Rattle.curve.specs.Lists.{Lists}
 
 -- a copy of a shorter list over the front
 pub copied-front : {A : Type 0} (source before after : List A) (k : ℕ) → length source ≡ k → k ≤ length before
@@ -16,5 +16,5 @@ copied-front source before after k e fits h =
     ap (take k) (h ∙ rw (take-all (length before) source (omega arith))) ∙ take-at source (drop (length source) before) k e
 
 -- two curves with the same lists
-pub curve-is : (c : Curve) (ks : List ℕ) (xs ys : List ℤ) → ks ≡ c .knots → xs ≡ c .xs → ys ≡ c .ys → record { knots = ks; xs = xs; ys = ys } ≡ c
+pub curve-is : (c : Lists) (ks : List ℕ) (xs ys : List ℤ) → ks ≡ c .knots → xs ≡ c .xs → ys ≡ c .ys → record { knots = ks; xs = xs; ys = ys } ≡ c
 curve-is c ks xs ys p q r = λ i. record { knots = p i; xs = q i; ys = r i }

@@ -9,16 +9,18 @@ use lib.ListN.{length, getD, take, drop, set, length-set, length-drop, drop-of-l
 use lib.Seq.{take-suc-set, drop-cons, getD-set-other, length-take-le, take-all, take-length}
 use Rattle.lent.specs.Lent.{over}
 use Rattle.grid.specs.Rows.{rangeOk, allOnGrid}
-use Rattle.grid.proofs.OrderLaws.{both}
+use Rattle.refusal.proofs.JudgingLaws.{both}
 use Rattle.grid.proofs.CheckLaws.{passes-tests}
 use Rattle.grid.proofs.SizeLaws.{sizes-of-passes}
 use Rattle.insertion.proofs.OrderLaws.{either}
 use Rattle.insertion.proofs.CheckedLaws.{rises-of-test, sizes-of-grid}
-use Rattle.compaction.specs.Compaction.{Curve, IsNext, Pass, done, next}
-use Rattle.compaction.specs.Work.{frontCurve, frontThen, CurvePasses, Holding, newest, OnGridTo, Growing, SettleOutcome, PassOutcome}
+use Rattle.curve.specs.Lists.{Lists}
+use Rattle.compaction.specs.Compaction.{IsNext, Pass, done, next}
+use Rattle.compaction.specs.Work.{frontCurve, frontThen, CurvePasses, Holding, newest, OnGridTo, Growing, ValueOutcome, PassOutcome}
 use Rattle.compaction.proofs.PartLaws.{glue-front, glue-length}
 use Rattle.compaction.proofs.FrontLaws.{copied-front, curve-is}
-use Rattle.compaction.proofs.PassLaws.{occurs-at, stands-at, repeats-least}
+use Rattle.checked.proofs.OccurrenceLaws.{occurs-at, stands-at}
+use Rattle.compaction.proofs.PassLaws.{repeats-least}
 
 -- one entry moves from what is to come to what has come
 one-moves : {A : Type 0} (d : A) (k t : ℕ) (l source : List A) → k < length l → t < length source
@@ -29,11 +31,11 @@ one-moves {A} d k t l source room inside =
     ∙ ap (λ (x : List A). take k l ++ x) (sym (drop-cons source t d inside))
 
 -- the whole curve, with n points at the front of lists and the rest as it was from point t on
-abbrev pub comes : ℕ → Curve → ℕ → ℕ → List ℕ → List ℤ → List ℤ → Curve
+abbrev pub comes : ℕ → Lists → ℕ → ℕ → List ℕ → List ℤ → List ℤ → Lists
 comes m c n t ks xs ys = frontThen m n ks xs ys (drop (t + m + 1) (c .knots)) (drop t (c .xs)) (drop t (c .ys))
 
 -- the state between two points
-pub record Growth (m : ℕ) (c : Curve) (ks₀ : List ℕ) (xs₀ ys₀ : List ℤ) (ks : List ℕ) (xs ys : List ℤ) (left taken : ℕ) : Type 0 where
+pub record Growth (m : ℕ) (c : Lists) (ks₀ : List ℕ) (xs₀ ys₀ : List ℤ) (ks : List ℕ) (xs ys : List ℤ) (left taken : ℕ) : Type 0 where
   pub sizeKnots : length ks ≡ length ks₀
   pub sizeXs : length xs ≡ length xs₀
   pub sizeYs : length ys ≡ length ys₀
@@ -47,9 +49,9 @@ pub record Growth (m : ℕ) (c : Curve) (ks₀ : List ℕ) (xs₀ ys₀ : List �
   pub above : getD (c .knots) m 0 ≤ low
   pub below : low < getD ks left 0
   pub pending : (j : ℕ) → j < left → low < getD ks j 0 → getD ks j 0 ≡ getD ks left 0
-  pub chain : (e : Curve) → Pass m low (comes m c left taken ks xs ys) e → Pass m (getD (c .knots) m 0) c e
+  pub chain : (e : Lists) → Pass m low (comes m c left taken ks xs ys) e → Pass m (getD (c .knots) m 0) c e
 
-module _ (m : ℕ) (c : Curve) (passing : CurvePasses m c) (ks₀ : List ℕ) (xs₀ ys₀ : List ℤ) (hold : Holding m (length (c .xs)) ks₀ xs₀ ys₀) where
+module _ (m : ℕ) (c : Lists) (passing : CurvePasses m c) (ks₀ : List ℕ) (xs₀ ys₀ : List ℤ) (hold : Holding m (length (c .xs)) ks₀ xs₀ ys₀) where
   -- other lists as long hold as many
   pub held : (ks : List ℕ) (xs ys : List ℤ) → length ks ≡ length ks₀ → length xs ≡ length xs₀ → length ys ≡ length ys₀ → Holding m (length (c .xs)) ks xs ys
   held ks xs ys a b d =
@@ -76,7 +78,7 @@ module _ (m : ℕ) (c : Curve) (passing : CurvePasses m c) (ks₀ : List ℕ) (x
       (rw fy (take-append-drop (m + 1) (c .ys))) in
       let entry : (j : ℕ) → j < m + 1 + m + 1 → getD ks j 0 ≡ getD (c .knots) j 0 =
       λ j h. sym (glue-front 0 (m + 1 + m + 1) ks (drop (m + 1 + m + 1) (c .knots)) j (omega (arith, hold .roomKnots, s .enough)) h)
-      ∙ ap (λ (x : Curve). getD (x .knots) j 0) whole in
+      ∙ ap (λ (x : Lists). getD (x .knots) j 0) whole in
       record {
         sizeKnots = refl;
         sizeXs = refl;
@@ -84,14 +86,14 @@ module _ (m : ℕ) (c : Curve) (passing : CurvePasses m c) (ks₀ : List ℕ) (x
         enough = omega arith;
         fewer = omega arith;
         inside = s .enough;
-        passes = subst (λ (x : Curve). CurvePasses m x) (sym whole) passing;
+        passes = subst (λ (x : Lists). CurvePasses m x) (sym whole) passing;
         first = entry m (omega arith);
         low = getD (c .knots) m 0;
         above = omega arith;
         below = omega (arith, entry (m + 1) (omega arith), repeats-least m c passing);
         pending = λ j h more.
             absurd (omega (arith, entry j (omega arith), rises-of-test (c .knots) (passes-tests m (c .knots) (c .xs) (c .ys) passing .order) j m (omega arith) (omega (arith, s .knots))));
-        chain = λ e p. subst (λ (x : Curve). Pass m (getD (c .knots) m 0) x e) whole p;
+        chain = λ e p. subst (λ (x : Lists). Pass m (getD (c .knots) m 0) x e) whole p;
       }
 
   module _ (ks : List ℕ) (xs ys : List ℤ) (left taken : ℕ) (w : Growth m c ks₀ xs₀ ys₀ ks xs ys left taken) where
@@ -134,7 +136,7 @@ module _ (m : ℕ) (c : Curve) (passing : CurvePasses m c) (ks₀ : List ℕ) (x
       old-knot j h = getD-set-other ks (left + (m + 1)) j (getD (c .knots) (taken + (m + 1)) 0) 0 (λ e. omega arith)
 
       passes₁ : CurvePasses m (comes m c (left + 1) (taken + 1) ks₁ xs₁ ys₁)
-      passes₁ = subst (λ (x : Curve). CurvePasses m x) (sym same-curve) (w .passes)
+      passes₁ = subst (λ (x : Lists). CurvePasses m x) (sym same-curve) (w .passes)
 
       size₁ : length ks₁ ≡ length ks
       size₁ = length-set ks (left + (m + 1)) (getD (c .knots) (taken + (m + 1)) 0)
@@ -215,7 +217,7 @@ module _ (m : ℕ) (c : Curve) (passing : CurvePasses m c) (ks₀ : List ℕ) (x
                 (λ behind. omega (arith, rises₁ left j behind l, here));
           }
 
-      pub growth-on : (ks′ : List ℕ) (xs′ ys′ : List ℤ) (left′ : ℕ) → SettleOutcome m (left + 1) ks₁ xs₁ ys₁ ks′ xs′ ys′ left′
+      pub growth-on : (ks′ : List ℕ) (xs′ ys′ : List ℤ) (left′ : ℕ) → ValueOutcome m (left + 1) ks₁ xs₁ ys₁ ks′ xs′ ys′ left′
           → length ks′ ≡ length ks₁ → length xs′ ≡ length xs₁ → length ys′ ≡ length ys₁
           → Growth m c ks₀ xs₀ ys₀ ks′ xs′ ys′ left′ (taken + 1)
       growth-on ks′ xs′ ys′ left′ o a b d =
@@ -245,7 +247,7 @@ module _ (m : ℕ) (c : Curve) (passing : CurvePasses m c) (ks₀ : List ℕ) (x
                 j (left′ - 1) (omega arith) (omega (arith, glue-length (left′ + m + 1) ks′ (drop (taken + 1 + m + 1) (c .knots)) roomy′)) in
                 absurd (omega (arith, front j (omega arith), front (left′ - 1) (omega arith), z .below));
             chain = λ e p.
-                w .chain e (subst (λ (x : Curve). Pass m (w .low) x e) same-curve (next (is-next last) (z .removes (drop (taken + 1 + m + 1) (c .knots)) (drop (taken + 1) (c .xs)) (drop (taken + 1) (c .ys)) passes₁) p));
+                w .chain e (subst (λ (x : Lists). Pass m (w .low) x e) same-curve (next (is-next last) (z .removes (drop (taken + 1 + m + 1) (c .knots)) (drop (taken + 1) (c .xs)) (drop (taken + 1) (c .ys)) passes₁) p));
           })
           (λ wait.
           let z = o .more wait in
@@ -268,7 +270,7 @@ module _ (m : ℕ) (c : Curve) (passing : CurvePasses m c) (ks₀ : List ℕ) (x
                 either j left
                 (λ before. old-knot j (omega arith) ∙ w .pending j before (omega (arith, old-knot j (omega arith))) ∙ sym even)
                 (λ last. let at : j ≡ left = omega arith in rw at (old-knot left (omega arith) ∙ sym even));
-            chain = λ e p. w .chain e (subst (λ (x : Curve). Pass m (w .low) x e) same-curve p);
+            chain = λ e p. w .chain e (subst (λ (x : Lists). Pass m (w .low) x e) same-curve p);
           }))
 
     -- nothing is to come
@@ -282,16 +284,16 @@ module _ (m : ℕ) (c : Curve) (passing : CurvePasses m c) (ks₀ : List ℕ) (x
         let whole : comes m c left taken ks xs ys ≡ frontCurve m left ks xs ys =
         curve-is (frontCurve m left ks xs ys) (take (left + m + 1) ks ++ drop (taken + m + 1) (c .knots)) (take left xs ++ drop taken (c .xs)) (take left ys ++ drop taken (c .ys))
         (rw nk (append-nil (take (left + m + 1) ks))) (rw nx (append-nil (take left xs))) (rw ny (append-nil (take left ys))) in
-        let passes : CurvePasses m (frontCurve m left ks xs ys) = subst (λ (x : Curve). CurvePasses m x) whole (w .passes) in
+        let passes : CurvePasses m (frontCurve m left ks xs ys) = subst (λ (x : Lists). CurvePasses m x) whole (w .passes) in
         let count = length-take-le left xs (omega (arith, w .sizeXs, hold .roomXs, w .fewer, w .inside)) in
         let size = length-take-le (left + m + 1) ks room in
         let front : (j : ℕ) → j < left + m + 1 → getD (take (left + m + 1) ks) j 0 ≡ getD ks j 0 =
-        λ j h. sym (ap (λ (x : Curve). getD (x .knots) j 0) whole) ∙ glue-front 0 (left + m + 1) ks (drop (taken + m + 1) (c .knots)) j room h in
+        λ j h. sym (ap (λ (x : Lists). getD (x .knots) j 0) whole) ∙ glue-front 0 (left + m + 1) ks (drop (taken + m + 1) (c .knots)) j room h in
         record {
           fewer = omega (arith, w .fewer, w .inside);
           passes = record { passes = passes };
           pass = w .chain (frontCurve m left ks xs ys)
-              (subst (λ (x : Curve). Pass m (w .low) x (frontCurve m left ks xs ys)) (sym whole) (done (λ v i.
+              (subst (λ (x : Lists). Pass m (w .low) x (frontCurve m left ks xs ys)) (sym whole) (done (λ v i.
               let at = stands-at v (take (left + m + 1) ks) (i .present) in
               let end = rw count at (i .right) in
               let last = front left (omega arith) in
@@ -304,7 +306,7 @@ module _ (m : ℕ) (c : Curve) (passing : CurvePasses m c) (ks₀ : List ℕ) (x
         }
 
 -- a curve of m + 1 points has no inner knot: a pass leaves it as it is
-pub nothing-inner : (m : ℕ) (c : Curve) → CurvePasses m c → length (c .xs) ≡ m + 1 → PassOutcome m (length (c .xs)) c (c .knots) (c .xs) (c .ys) (length (c .xs))
+pub nothing-inner : (m : ℕ) (c : Lists) → CurvePasses m c → length (c .xs) ≡ m + 1 → PassOutcome m (length (c .xs)) c (c .knots) (c .xs) (c .ys) (length (c .xs))
 nothing-inner m c passing few =
     let s = sizes-of-passes m (c .knots) (c .xs) (c .ys) passing in
     let rises = rises-of-test (c .knots) (passes-tests m (c .knots) (c .xs) (c .ys) passing .order) in
@@ -313,8 +315,8 @@ nothing-inner m c passing few =
     (take-all (length (c .xs) + m + 1) (c .knots) (omega (arith, s .knots))) (take-length (c .xs)) (take-all (length (c .xs)) (c .ys) (omega (arith, s .as-many))) in
     record {
       fewer = omega arith;
-      passes = record { passes = subst (λ (x : Curve). CurvePasses m x) (sym whole) passing };
-      pass = subst (λ (x : Curve). Pass m (getD (c .knots) m 0) c x) (sym whole)
+      passes = record { passes = subst (λ (x : Lists). CurvePasses m x) (sym whole) passing };
+      pass = subst (λ (x : Lists). Pass m (getD (c .knots) m 0) c x) (sym whole)
           (done (λ v i.
           let at = stands-at v (c .knots) (i .present) in
           either (at .0) (length (c .xs))

@@ -3,6 +3,8 @@ pub mod PartLaws
 pub mod FrontLaws
 pub mod TailLaws
 pub mod TryLaws
-pub mod SettleLaws
+pub mod ValueLaws
 pub mod GrowLaws
 pub mod PassLaws
+pub mod SentenceLaws
+pub mod Controls

@@ -10,24 +10,26 @@ use lib.Seq.{length-take-le, ext-getD}
 use Rattle.lent.proofs.OverLaws.{over-entry, over-length}
 use Rattle.grid.specs.Limits.{coordinateMost}
 use Rattle.grid.specs.Rows.{rangeOk, allOnGrid}
-use Rattle.grid.proofs.OrderLaws.{both}
+use Rattle.refusal.proofs.JudgingLaws.{both}
 use Rattle.grid.proofs.CheckLaws.{passes-tests}
 use Rattle.grid.proofs.SizeLaws.{sizes-of-passes}
 use Rattle.insertion.specs.Insertion.{knotsUpTo, insertionSpan, pointAt}
 use Rattle.insertion.proofs.OrderLaws.{either}
 use Rattle.insertion.proofs.SpanLaws.{knotsUpTo-above, span-of-upTo}
 use Rattle.insertion.proofs.CheckedLaws.{rises-of-test, sizes-of-grid}
-use Rattle.removal.specs.Removal.{withoutOne, Removable}
+use Rattle.removal.specs.Removal.{withoutOne}
 use Rattle.removal.specs.Axis.{Ranged, AxisReinserts}
 use Rattle.removal.specs.Polygon.{Inner}
-use Rattle.removal.proofs.PolygonLaws.{fewer-length, fewer-right, fewer-reduced, knot-before, knot-here, knot-behind, polygon-reinserts, reinserts-xs, reinserts-ys}
+use Rattle.removal.proofs.PolygonLaws.{fewer-length, fewer-right, fewer-reduced, knot-before, knot-here, knot-behind, polygon-removes, reinserts-xs, reinserts-ys}
 use Rattle.window.specs.Window.{middle, closed, Window, Closed, Stuck}
 use Rattle.window.proofs.ClosedLaws.{closed-length, closed-before, closed-behind, closed-span, closed-reduced}
 use Rattle.window.proofs.LocalLaws.{narrow, widen}
-use Rattle.compaction.specs.Compaction.{Curve, Removes, Stays}
+use Rattle.curve.specs.Lists.{Lists}
+use Rattle.removal.specs.Removal.{Removes}
+use Rattle.compaction.specs.Compaction.{Stays}
 use Rattle.compaction.specs.Work.{frontThen, CurvePasses, newest, OnGridTo, Growing}
 use Rattle.compaction.proofs.PartLaws.{part-entry, put-before, put-inside, glue-front, glue-rest, glue-length}
-use Rattle.compaction.proofs.PassLaws.{occurs-at}
+use Rattle.checked.proofs.OccurrenceLaws.{occurs-at}
 
 -- where the window begins, and its lists
 abbrev pub windowAt : ℕ → ℕ → ℕ
@@ -92,9 +94,6 @@ module _ (m n : ℕ) (ks : List ℕ) (xs ys : List ℤ) (g : Growing m n ks xs y
 
     count-xs : length (take n xs ++ rx) ≡ n + length rx
     count-xs = glue-length n xs rx (g .holding .roomXs)
-
-    count-ys : length (take n ys ++ ry) ≡ n + length ry
-    count-ys = glue-length n ys ry (g .holding .roomYs)
 
     rises : (a b : ℕ) → a ≤ b → b < length (take (n + m + 1) ks ++ rk) → getD (take (n + m + 1) ks ++ rk) a 0 ≤ getD (take (n + m + 1) ks ++ rk) b 0
     rises = rises-of-test (take (n + m + 1) ks ++ rk) (passes-tests m (take (n + m + 1) ks ++ rk) (take n xs ++ rx) (take n ys ++ ry) passes .order)
@@ -218,11 +217,12 @@ module _ (m n : ℕ) (ks : List ℕ) (xs ys : List ℤ) (g : Growing m n ks xs y
     pub tail-stays : (ts′ : List ℕ) (xs′ ys′ : List ℤ) → Stuck m (windowKnots m n ks) (windowPoints m n xs) (windowPoints m n ys) ts′ xs′ ys′
         → Stays m (newest n ks) (frontThen m n ks xs ys rk rx ry)
     tail-stays ts′ xs′ ys′ stuck r =
-        let x = reinserts-xs m (newest n ks) fewer (r .px) (r .py) (take (n + m + 1) ks ++ rk) (take n xs ++ rx) (take n ys ++ ry) (r .reinserts) in
-        let y = reinserts-ys m (newest n ks) fewer (r .px) (r .py) (take (n + m + 1) ks ++ rk) (take n xs ++ rx) (take n ys ++ ry) (r .reinserts) in
-        stuck .none (take (m + 1) (drop (windowAt m n) (r .px))) (take (m + 1) (drop (windowAt m n) (r .py)))
-        (axis-narrow xs rx (g .holding .roomXs) refl range-xs (r .px) x)
-        (axis-narrow ys ry (g .holding .roomYs) as-many range-ys (r .py) y)
+        let d = r .without in
+        let x = rw (r .removes .fewer) at (reinserts-xs m (newest n ks) (d .knots) (d .xs) (d .ys) (take (n + m + 1) ks ++ rk) (take n xs ++ rx) (take n ys ++ ry) (r .removes)) in
+        let y = rw (r .removes .fewer) at (reinserts-ys m (newest n ks) (d .knots) (d .xs) (d .ys) (take (n + m + 1) ks ++ rk) (take n xs ++ rx) (take n ys ++ ry) (r .removes)) in
+        stuck .none (take (m + 1) (drop (windowAt m n) (d .xs))) (take (m + 1) (drop (windowAt m n) (d .ys)))
+        (axis-narrow xs rx (g .holding .roomXs) refl range-xs (d .xs) x)
+        (axis-narrow ys ry (g .holding .roomYs) as-many range-ys (d .ys) y)
 
     -- the window closed: the knot gone from the curve
     module _ (ks′ : List ℕ) (xs′ ys′ : List ℤ) (wk : List ℕ) (wx wy : List ℤ)
@@ -253,10 +253,7 @@ module _ (m n : ℕ) (ks : List ℕ) (xs ys : List ℤ) (g : Growing m n ks xs y
 
       pub tail-removes : Removes m (newest n ks) (frontThen m n ks xs ys rk rx ry) (frontThen m (n - 1) ks′ xs′ ys′ rk rx ry)
       tail-removes =
-          record {
-            fewer = knots-left;
-            reinserts =
-                polygon-reinserts m (take (n + m + 1) ks ++ rk) (take n xs ++ rx) (take n ys ++ ry) (newest n ks) inner-newest (take (n - 1) xs′ ++ rx) (take (n - 1) ys′ ++ ry)
-                (axis-widen xs rx (g .holding .roomXs) refl range-xs (solved .px) xs′ sizeXs (solved .onX) beforeXs newXs)
-                (axis-widen ys ry (g .holding .roomYs) as-many range-ys (solved .py) ys′ sizeYs (solved .onY) beforeYs newYs);
-          }
+          rw knots-left
+          (polygon-removes m (take (n + m + 1) ks ++ rk) (take n xs ++ rx) (take n ys ++ ry) (newest n ks) inner-newest (take (n - 1) xs′ ++ rx) (take (n - 1) ys′ ++ ry)
+          (axis-widen xs rx (g .holding .roomXs) refl range-xs (solved .px) xs′ sizeXs (solved .onX) beforeXs newXs)
+          (axis-widen ys ry (g .holding .roomYs) as-many range-ys (solved .py) ys′ sizeYs (solved .onY) beforeYs newYs))

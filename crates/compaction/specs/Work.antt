@@ -8,17 +8,19 @@ use lib.ListN.{length, getD, take}
 use Rattle.grid.specs.Check.{Passes}
 use Rattle.grid.specs.Limits.{coordinateMost}
 use Rattle.insertion.specs.Insertion.{pointAt}
-use Rattle.compaction.specs.Compaction.{Curve, Removes, Stays, RemovesWhile, Pass}
+use Rattle.curve.specs.Lists.{Lists}
+use Rattle.removal.specs.Removal.{Removes}
+use Rattle.compaction.specs.Compaction.{Stays, RemovesWhile, Pass}
 
 -- the curve of n points at the front of the lists
-abbrev pub frontCurve : ℕ → ℕ → List ℕ → List ℤ → List ℤ → Curve
+abbrev pub frontCurve : ℕ → ℕ → List ℕ → List ℤ → List ℤ → Lists
 frontCurve m n ks xs ys = record { knots = take (n + m + 1) ks; xs = take n xs; ys = take n ys }
 
 -- the curve that n points at the front of the lists begin and `rk`, `rx`, `ry` end
-abbrev pub frontThen : ℕ → ℕ → List ℕ → List ℤ → List ℤ → List ℕ → List ℤ → List ℤ → Curve
+abbrev pub frontThen : ℕ → ℕ → List ℕ → List ℤ → List ℤ → List ℕ → List ℤ → List ℤ → Lists
 frontThen m n ks xs ys rk rx ry = record { knots = take (n + m + 1) ks ++ rk; xs = take n xs ++ rx; ys = take n ys ++ ry }
 
-abbrev pub CurvePasses : ℕ → Curve → Type 0
+abbrev pub CurvePasses : ℕ → Lists → Type 0
 CurvePasses m c = Passes m (c .knots) (c .xs) (c .ys)
 
 -- the lists are long enough for n points
@@ -72,7 +74,7 @@ pub record TryOutcome (m n : ℕ) (ks : List ℕ) (xs ys : List ℤ) (ksAfter : 
   pub kept : r ≡ false → Fixed m n ks xs ys ksAfter xsAfter ysAfter
 
 -- the newest value v is dealt with: removed while removal is accepted, in every curve that the front begins
-pub record Settled (m n : ℕ) (ks : List ℕ) (xs ys : List ℤ) (ksAfter : List ℕ) (xsAfter ysAfter : List ℤ) (left : ℕ) : Type 0 where
+pub record ValueRemoved (m n : ℕ) (ks : List ℕ) (xs ys : List ℤ) (ksAfter : List ℕ) (xsAfter ysAfter : List ℤ) (left : ℕ) : Type 0 where
   pub passes : (rk : List ℕ) (rx ry : List ℤ) → CurvePasses m (frontThen m n ks xs ys rk rx ry) → CurvePasses m (frontThen m left ksAfter xsAfter ysAfter rk rx ry)
   pub removes : (rk : List ℕ) (rx ry : List ℤ) → CurvePasses m (frontThen m n ks xs ys rk rx ry)
       → RemovesWhile m (newest n ks) (frontThen m n ks xs ys rk rx ry) (frontThen m left ksAfter xsAfter ysAfter rk rx ry)
@@ -90,12 +92,12 @@ pub record Waiting (n : ℕ) (ks : List ℕ) (xs ys : List ℤ) (ksAfter : List 
   pub sameCount : left ≡ n
 
 -- a value is dealt with where its last knot has come
-pub record SettleOutcome (m n : ℕ) (ks : List ℕ) (xs ys : List ℤ) (ksAfter : List ℕ) (xsAfter ysAfter : List ℤ) (left : ℕ) : Type 0 where
+pub record ValueOutcome (m n : ℕ) (ks : List ℕ) (xs ys : List ℤ) (ksAfter : List ℕ) (xsAfter ysAfter : List ℤ) (left : ℕ) : Type 0 where
   pub more : getD ks n 0 ≤ newest n ks → Waiting n ks xs ys ksAfter xsAfter ysAfter left
-  pub last : newest n ks < getD ks n 0 → Settled m n ks xs ys ksAfter xsAfter ysAfter left
+  pub last : newest n ks < getD ks n 0 → ValueRemoved m n ks xs ys ksAfter xsAfter ysAfter left
 
 -- a whole pass
-pub record PassOutcome (m n : ℕ) (c : Curve) (ks : List ℕ) (xs ys : List ℤ) (left : ℕ) : Type 0 where
+pub record PassOutcome (m n : ℕ) (c : Lists) (ks : List ℕ) (xs ys : List ℤ) (left : ℕ) : Type 0 where
   pub fewer : left ≤ n
   pub passes : FrontPasses m left ks xs ys
   pub pass : Pass m (getD (c .knots) m 0) c (frontCurve m left ks xs ys)

@@ -1,9 +1,9 @@
 // The parts of compacting a curve ("Inserting and removing a knot"). The curve comes into working lists point by point; as soon as the last knot
 // of a value is there, the value is dealt with. A removal changes the last few points alone, so a pass takes time in proportion to the lists.
-mod settling;
+mod value_removal;
 
 ghost use Rattle.grid.specs.Check.{Passes};
-ghost use Rattle.compaction.specs.Compaction.{Curve};
+ghost use Rattle.curve.specs.Lists.{lists};
 ghost use Rattle.compaction.specs.Work.{Holding, PassOutcome};
 ghost use lib.ListN.{length};
 
@@ -20,7 +20,8 @@ pub fn compact_into(
 ) -> usize
     requires { ⌜ Passes m (now knots) (now xs) (now ys) ⌝ }
     requires { ⌜ Holding m (length (now xs)) (now «front_knots») (now «front_xs») (now «front_ys») ⌝ }
-    ensures answer { λ r. ⌜ PassOutcome m (length (now (xs .entry))) (record { knots = now (knots .entry); xs = now (xs .entry); ys = now (ys .entry) }) (now («front_knots» .exit)) (now («front_xs» .exit)) (now («front_ys» .exit)) r ⌝ }
+    ensures answer { λ r. ⌜ PassOutcome m (length (now (xs .entry))) (lists (now (knots .entry)) (now (xs .entry)) (now (ys .entry)))
+        (now («front_knots» .exit)) (now («front_xs» .exit)) (now («front_ys» .exit)) r ⌝ }
 {
     let n = xs.len();
     let width = m + 1;
@@ -34,7 +35,7 @@ pub fn compact_into(
         front_knots[left + width] = knots[taken + width];
         front_xs[left] = xs[taken];
         front_ys[left] = ys[taken];
-        left = settling::settle(m, left + 1, front_knots, front_xs, front_ys);
+        left = value_removal::remove_value(m, left + 1, front_knots, front_xs, front_ys);
         taken += 1;
     }
     left

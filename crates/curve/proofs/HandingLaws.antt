@@ -1,12 +1,13 @@
 -- What lent lists hold by the number of a call; and a call by cases has one outcome where it comes to one number and one curve.
 use mathlib.Core.List.{List}
-use mathlib.Core.Path.{_≡_, refl, sym, ap, _∙_}
+use mathlib.Core.Path.{_≡_, sym, ap, _∙_}
 use Prim.Native.Nat.{ℕ, zero, suc, _≤_}
 use lib.Dec.{eqb·suc-zero}
 use lib.ListN.{length, take}
 use lib.Seq.{take-all}
 use borrow.Author.Tests.{ne-eqb}
 use Rattle.refusal.specs.Judging.{answered}
+use Rattle.refusal.proofs.JudgingLaws.{answered-refused}
 use Rattle.lent.specs.Lent.{over}
 use Rattle.curve.specs.Lists.{Lists}
 use Rattle.curve.specs.HandingOver.{handedOver, HandsOut}
@@ -19,6 +20,17 @@ copied-whole {A} source before after fits h = h ∙ ap (λ (l : List A). over l 
 -- a refusal leaves the lists as they were found
 pub handedOver-refused : (number : ℕ) (result before : Lists) → (number ≡ 0 → ⊥) → handedOver number result before ≡ before
 handedOver-refused number result before h = rw (ne-eqb number 0 h)
+
+-- how a call by cases ends: with a refusal that wrote nothing, with the number of a handing over, or with the curve
+module _ {A : Type 0} (ComesTo : ℕ → Lists → Type 0) (done : Lists → A) (refused : ℕ → A) (before : Lists) (number : ℕ) (d : Lists) (comes : ComesTo number d) where
+  pub ends-refused : (now : Lists) → (number ≡ 0 → ⊥) → now ≡ handedOver number d before → HandsOut ComesTo done refused before (refused number) now
+  ends-refused now h k = record { number = number; result = d; comesTo = comes; answers = sym (answered-refused done refused number d h); hands = k }
+
+  pub ends-untouched : (number ≡ 0 → ⊥) → HandsOut ComesTo done refused before (refused number) before
+  ends-untouched h = ends-refused before h (sym (handedOver-refused number d before h))
+
+  pub ends-done : (now : Lists) → number ≡ 0 → now ≡ handedOver number d before → HandsOut ComesTo done refused before (done d) now
+  ends-done now z k = record { number = number; result = d; comesTo = comes; answers = rw z; hands = k }
 
 -- it comes to one number, and where that is 0 to one curve
 pub record Determined (ComesTo : ℕ → Lists → Type 0) : Type 0 where

@@ -1,6 +1,6 @@
 -- Three lists are equal where each is, and back.
 use mathlib.Core.List.{List}
-use mathlib.Core.Path.{_≡_, refl, ap}
+use mathlib.Core.Path.{_≡_, ap}
 use Prim.Native.Nat.{ℕ}
 use lib.IntN.{ℤ}
 use Rattle.curve.specs.Lists.{Lists, lists}

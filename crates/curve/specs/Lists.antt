@@ -4,8 +4,7 @@ use Prim.Native.Nat.{ℕ, _≤_, _<_}
 use lib.IntN.{ℤ}
 use lib.ListN.{length, getD}
 
--- knots, x coordinates, y coordinates
-pub record Lists : Type 0 where
+pub record Lists : Type 0 where  -- knots, x coordinates, y coordinates
   pub knots : List ℕ
   pub xs : List ℤ
   pub ys : List ℤ
@@ -13,6 +12,5 @@ pub record Lists : Type 0 where
 abbrev pub lists : List ℕ → List ℤ → List ℤ → Lists
 lists ts xs ys = record { knots = ts; xs = xs; ys = ys }
 
--- no knot is below one that stands before it
-abbrev pub NeverFall : List ℕ → Type 0
+abbrev pub NeverFall : List ℕ → Type 0  -- no knot is below one that stands before it
 NeverFall ts = (a b : ℕ) → a ≤ b → b < length ts → getD ts a 0 ≤ getD ts b 0

@@ -1,7 +1,7 @@
--- 8 is given exactly when the curve passes and the parameter is outside the domain.
+-- 8 is given exactly when the curve passes and the parameter is outside the domain, and nothing is refused exactly when it is inside.
 use mathlib.Core.Bool.{Bool, true, false, _&&_}
 use mathlib.Core.List.{List}
-use mathlib.Core.Logic.{inl, inr, _↔_}
+use mathlib.Core.Logic.{inl, inr}
 use mathlib.Core.Path.{_≡_, refl, sym, _∙_}
 use Prim.Native.Nat.{ℕ, _+_, _-_}
 use native.Mathlib.Decide.{ℕ-discrete}
@@ -12,12 +12,13 @@ use lib.Dec.{leb}
 use lib.IntN.{ℤ}
 use lib.ListN.{length, getD}
 use Rattle.refusal.specs.Judging.{unless}
-use Rattle.refusal.specs.Numbers.{parameterRefused}
 use Rattle.grid.specs.Check.{checkNumber, Passes}
 use Rattle.grid.proofs.CheckLaws.{checkNumber-most}
 use Rattle.span.specs.Span.{inDomain}
-use Rattle.domain.specs.Parameter.{parameterNumber, Outside}
-use Rattle.domain.proofs.ParameterLaws.{curve-refused, curve-passed}
+use Rattle.span.proofs.SentenceLaws.{domain-exactly}
+use Rattle.domain.specs.Parameter.{parameterNumber}
+use Rattle.domain.specs.Sentences.{Outside, Inside, EightExactly, AcceptedExactly, CurveJudgedFirst}
+use Rattle.domain.proofs.ParameterLaws.{curve-refused, curve-passed, parameter-accepted}
 
 -- the test of the domain fails exactly outside it
 module _ (ts : List ℕ) (m n t : ℕ) where
@@ -39,15 +40,30 @@ eight-of-test true e = absurd (omega arith)
 eight-of-test false e = refl
 
 module _ (m : ℕ) (ts : List ℕ) (xs ys : List ℤ) (t : ℕ) where
-  outside-of-number : parameterNumber m ts xs ys t ≡ parameterRefused → Passes m ts xs ys × Outside ts m (length xs - 1) t
+  outside-of-number : parameterNumber m ts xs ys t ≡ 8 → Passes m ts xs ys × Outside ts m (length xs - 1) t
   outside-of-number h = by (ℕ-discrete (checkNumber m ts xs ys) 0)
     where
       by : Dec (checkNumber m ts xs ys ≡ 0) → Passes m ts xs ys × Outside ts m (length xs - 1) t
       by (yes p) = (p, outside-of-test ts m (length xs - 1) t (eight-of-test (inDomain ts m (length xs - 1) t 1) (sym (curve-passed m ts xs ys t p) ∙ h)))
       by (no r) = absurd (omega (arith, checkNumber-most m ts xs ys, curve-refused m ts xs ys t r ∙ h))
 
-  number-of-outside : Passes m ts xs ys × Outside ts m (length xs - 1) t → parameterNumber m ts xs ys t ≡ parameterRefused
+  number-of-outside : Passes m ts xs ys × Outside ts m (length xs - 1) t → parameterNumber m ts xs ys t ≡ 8
   number-of-outside w = curve-passed m ts xs ys t (w .0) ∙ simp (test-of-outside ts m (length xs - 1) t (w .1))
 
-  pub eight-exactly : (parameterNumber m ts xs ys t ≡ parameterRefused) ↔ (Passes m ts xs ys × Outside ts m (length xs - 1) t)
-  eight-exactly = (outside-of-number, number-of-outside)
+  inside-of-number : parameterNumber m ts xs ys t ≡ 0 → Passes m ts xs ys × Inside ts m (length xs - 1) t
+  inside-of-number h =
+      let judged = parameter-accepted m ts xs ys t h in
+      (judged .0, simp mul-one at (domain-exactly ts m (length xs - 1) t 1 .0 (judged .1)))
+
+  number-of-inside : Passes m ts xs ys × Inside ts m (length xs - 1) t → parameterNumber m ts xs ys t ≡ 0
+  number-of-inside w =
+      curve-passed m ts xs ys t (w .0) ∙ simp (domain-exactly ts m (length xs - 1) t 1 .1 (simp mul-one (w .1)))
+
+pub eight-exactly : EightExactly
+eight-exactly m ts xs ys t = (outside-of-number m ts xs ys t, number-of-outside m ts xs ys t)
+
+pub accepted-exactly : AcceptedExactly
+accepted-exactly m ts xs ys t = (inside-of-number m ts xs ys t, number-of-inside m ts xs ys t)
+
+pub curve-judged-first : CurveJudgedFirst
+curve-judged-first m ts xs ys t refused = sym (curve-refused m ts xs ys t refused)

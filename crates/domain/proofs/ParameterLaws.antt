@@ -6,29 +6,28 @@ use Prim.Native.Nat.{ℕ, _+_, _-_, _≤_, _<_}
 use native.Mathlib.Nat.{mul-one}
 use native.Mathlib.Decide.{ℕ-discrete}
 use native.Mathlib.Omega.{arith}
-use borrow.Author.Tests.{eq-eqb, ne-eqb}
 use lib.IntN.{ℤ}
 use lib.ListN.{length, getD}
 use Rattle.refusal.specs.Judging.{unless}
 use Rattle.refusal.specs.Numbers.{accepted, parameterRefused}
 use Rattle.refusal.proofs.JudgingLaws.{unless-accepted}
 use Rattle.grid.specs.Check.{checkNumber, Passes}
-use Rattle.grid.proofs.CheckLaws.{checkedThen-split}
-use Rattle.checked.proofs.CheckedLaws.{checked-of-passes}
-use Rattle.span.specs.Span.{IsSpan, spanOf, inDomain}
-use Rattle.span.proofs.SpanLaws.{spanOf-within, spanOf-is, inDomain-says}
+use Rattle.grid.proofs.ThenLaws.{checkedThen-refused, checkedThen-passed}
+use Rattle.grid.proofs.SizeLaws.{sizes-of-passes}
+use Rattle.span.specs.Span.{spanOf, inDomain}
+use Rattle.span.proofs.SpanLaws.{spanOf-within, inDomain-says}
 use Rattle.domain.specs.Parameter.{parameterNumber}
 
 module _ (m : ℕ) (ts : List ℕ) (xs ys : List ℤ) (t : ℕ) where
   -- the curve's number comes first
   pub curve-refused : (checkNumber m ts xs ys ≡ 0 → ⊥) → checkNumber m ts xs ys ≡ parameterNumber m ts xs ys t
   unfolding parameterNumber
-  curve-refused refused = rw (checkedThen-split, ne-eqb (checkNumber m ts xs ys) 0 refused)
+  curve-refused refused = sym (checkedThen-refused m ts xs ys _ refused)
 
   -- then the domain is judged
   pub curve-passed : Passes m ts xs ys → parameterNumber m ts xs ys t ≡ unless (inDomain ts m (length xs - 1) t 1) parameterRefused accepted
   unfolding parameterNumber
-  curve-passed passed = rw (checkedThen-split, eq-eqb (checkNumber m ts xs ys) 0 passed)
+  curve-passed passed = checkedThen-passed m ts xs ys _ passed
 
   -- nothing refused: the curve passes and the domain holds the parameter
   pub parameter-accepted : parameterNumber m ts xs ys t ≡ 0 → Passes m ts xs ys × (inDomain ts m (length xs - 1) t 1 ≡ true)
@@ -52,28 +51,17 @@ pub accepted-within :
     (m : ℕ) (ts : List ℕ) (xs ys : List ℤ) (t i : ℕ) → parameterNumber m ts xs ys t ≡ 0 → i ≡ spanOf ts m (length xs - 1) t 1 → Within m ts xs ys t i
 accepted-within m ts xs ys t i h e =
     let passed = parameter-accepted m ts xs ys t h in
-    let curve = checked-of-passes m ts xs ys (passed .0) in
-    let enough : m + 1 ≤ length xs = curve .sizes .enough in
-    let knots : length ts ≡ length xs + m + 1 = curve .sizes .knots in
+    let sizes = sizes-of-passes m ts xs ys (passed .0) in
+    let enough = sizes .enough in
+    let knots = sizes .knots in
     let span : (m ≤ i) × (i ≤ length xs - 1) = rw e (spanOf-within ts m (length xs - 1) t 1 (omega arith)) in
     let last : length xs - 1 + 1 ≡ length xs = omega arith in
     record {
-      least = curve .sizes .degree-least;
-      most = curve .sizes .degree-most;
+      least = sizes .degree-least;
+      most = sizes .degree-most;
       first = span .0;
       point = omega arith;
-      alike = curve .sizes .as-many;
+      alike = sizes .as-many;
       knot = omega arith;
       top = simp (mul-one, last) at (inDomain-says ts m (length xs - 1) t 1 (passed .1) .1);
     }
-
--- the index that the search finds for an accepted parameter is its span: the largest that the rule allows
-pub accepted-span :
-    (m : ℕ) (ts : List ℕ) (xs ys : List ℤ) (t : ℕ) → parameterNumber m ts xs ys t ≡ 0
-    → IsSpan ts m (length xs - 1) t 1 (spanOf ts m (length xs - 1) t 1)
-accepted-span m ts xs ys t h =
-    let passed = parameter-accepted m ts xs ys t h in
-    let curve = checked-of-passes m ts xs ys (passed .0) in
-    let enough : m + 1 ≤ length xs = curve .sizes .enough in
-    let last : length xs - 1 + 1 ≡ length xs = omega arith in
-    spanOf-is ts m (length xs - 1) t 1 (omega arith) (inDomain-says ts m (length xs - 1) t 1 (passed .1) .0) (rw last (curve .domain))

@@ -1,2 +1,3 @@
 -- Which parameters a call refuses.
 pub mod Parameter
+pub mod Sentences

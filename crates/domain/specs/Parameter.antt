@@ -1,9 +1,8 @@
 -- What a call at a parameter is refused with (headings "The point at a parameter" and "Numbers of refusal"): the point and the carrying coordinates alike.
 use mathlib.Core.List.{List}
-use mathlib.Core.Logic.{_⊎_}
-use Prim.Native.Nat.{ℕ, _+_, _-_, _<_}
+use Prim.Native.Nat.{ℕ, _-_}
 use lib.IntN.{ℤ}
-use lib.ListN.{length, getD}
+use lib.ListN.{length}
 use Rattle.refusal.specs.Judging.{unless}
 use Rattle.refusal.specs.Numbers.{accepted, parameterRefused}
 use Rattle.grid.specs.Check.{checkedThen}
@@ -12,7 +11,3 @@ use Rattle.span.specs.Span.{inDomain}
 -- 1 to 7 for the curve, then 8 for a whole parameter outside the domain; 0 for none of them
 unfoldable pub parameterNumber : ℕ → List ℕ → List ℤ → List ℤ → ℕ → ℕ
 parameterNumber m ts xs ys t = checkedThen m ts xs ys (unless (inDomain ts m (length xs - 1) t 1) parameterRefused accepted)
-
--- the sentence of 8: t is left of t_m or right of t_{n+1}
-abbrev pub Outside : List ℕ → ℕ → ℕ → ℕ → Type 0
-Outside ts m n t = (t < getD ts m 0) ⊎ (getD ts (n + 1) 0 < t)

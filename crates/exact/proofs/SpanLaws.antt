@@ -1,13 +1,9 @@
 -- What the theory of splines asks of knots and parameter, from whole numbers: the knots of a list never fall, and p/q lies in
 -- span i. `p/q` is compared with a knot t by t·q and p.
-use mathlib.Core.Path.{_≡_, ap}
 use mathlib.Core.List.{List}
 use mathlib.Core.Logic.{_↔_}
-use Prim.Native.Nat.{ℕ, zero, suc, _+_, _*_, _≤_, _<_}
+use Prim.Native.Nat.{ℕ, zero, _+_, _*_, _≤_, _<_}
 use native.Mathlib.Nat as NatL
-use native.Mathlib.Nat.{le-of-eq, le-trans}
-use native.Mathlib.Decide.{decLe}
-use native.Mathlib.Omega.{arith}
 use lib.Dec.{leb→le, le→leb}
 use lib.IntN.{pos}
 use lib.ListN.{getD}
@@ -18,19 +14,6 @@ use Rattle.fractions.proofs.Rational.{rational}
 use Rattle.fractions.proofs.ClassLaws.{class-at-most, wholeN-at-most, wholeN-below}
 use Rattle.splines.specs.Span.{Rising, InSpan}
 use Rattle.exact.proofs.ExactLaws.{rationalKnot, rationalParameter}
-
--- numbers none of which falls below the one before it never fall
-pub rising-of-neighbours : (f : ℕ → ℕ) (last : ℕ) → ((k : ℕ) → k < last → f k ≤ f (suc k))
-    → (a b : ℕ) → a ≤ b → b ≤ last → f a ≤ f b
-rising-of-neighbours f last step a zero ab bl = le-of-eq (ap f none)
-  where
-    none : a ≡ zero
-    none = omega arith
-rising-of-neighbours f last step a (suc b) ab bl = on (λ h. rising-of-neighbours f last step a b h (omega arith)) (decLe a b)
-  where
-    on : (a ≤ b → f a ≤ f b) → Dec (a ≤ b) → f a ≤ f (suc b)
-    on before (yes h) = le-trans (before h) (step b bl)
-    on before (no h) = le-of-eq (ap f (omega arith))
 
 -- knots of a list that never fall up to the index `last`
 pub knots-rising : (ts : List ℕ) (last : ℕ) → ((a b : ℕ) → a ≤ b → b ≤ last → getD ts a 0 ≤ getD ts b 0)

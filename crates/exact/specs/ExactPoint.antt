@@ -1,4 +1,4 @@
--- The exact point (heading "The point at a parameter"): the sum of N_{j,m}(t)·P_j over fractions, over all points of the curve.
+-- The exact point (heading "The point at a parameter"): a sum over all points of the curve, each times its basis function, in fractions.
 -- `ts` are the knots, `ps` the coordinates of one axis, m the degree, i the span's index and p/q the parameter, q above zero.
 use mathlib.Core.List.{List}
 use Prim.Native.Nat.{ℕ}

@@ -1,14 +1,13 @@
 -- Laws of bytes put at a place and of entries read from a place on, over any entry and its width.
 use mathlib.Core.Path.{_≡_, refl, sym, ap, _∙_}
 use mathlib.Core.List.{List, [], _∷_, _++_, append-assoc, append-nil}
-use Prim.Native.Nat.{ℕ, zero, suc, _+_, _*_, _<_, _≤_}
-use native.Mathlib.Nat.{add-zero, zero-add, add-assoc, add-comm, mul-zero, mul-suc, mul-le-mul-left}
-use native.Mathlib.Numerals.{add-one}
+use Prim.Native.Nat.{ℕ, zero, suc, _+_, _*_, _-_, _<_, _≤_}
+use native.Mathlib.Nat.{add-zero, zero-add, add-assoc, add-comm, mul-zero, mul-suc, le-of-eq}
 use native.Mathlib.Omega.{arith}
-use lib.ListN.{length, getD, take, drop, set, length-append, length-drop, take-append-drop}
-use lib.Seq.{take-at, drop-drop, drop-append-add, take-suc, length-take-le}
+use lib.ListN.{length, getD, take, drop, length-append, length-drop, take-append-drop, drop-of-length-le}
+use lib.Seq.{take-at, drop-drop, drop-append-add, length-take-le}
 use Rattle.lent.specs.Lent.{over}
-use Rattle.lent.proofs.OverLaws.{over-more}
+use Rattle.lent.proofs.ListLaws.{take-rest}
 use Rattle.fields.specs.Bytes.{each}
 use Rattle.fields.specs.Places.{entriesAt, putAt}
 
@@ -20,6 +19,10 @@ module _ {A : Type 0} where
   -- put at the front is put over
   pub putAt-front : (before part : List A) → putAt before 0 part ≡ over part before
   putAt-front before part = rw zero-add
+
+  -- the front of a list that a result was put over is the result
+  pub over-front : (result before now : List A) (n : ℕ) → length result ≡ n → now ≡ over result before → take n now ≡ result
+  over-front result before now n e f = ap (take n) f ∙ take-at result (drop (length result) before) n e
 
   -- what was put, with what stands before it
   length-front : (before part : List A) (at : ℕ) → at ≤ length before → length (take at before ++ part) ≡ at + length part
@@ -39,6 +42,13 @@ module _ {A : Type 0} where
       ap (λ (l : List A). l ++ b ++ drop (at + length a + length b) (front ++ rest)) taken
       ∙ ap (λ (l : List A). front ++ b ++ l) left
       ∙ simp (append-assoc, length-append, add-assoc)
+
+  -- a part put over the rest of a list from a place on, as a program's `&mut l[at..]` is given back
+  pub putAt-rest : (before now : List A) (at : ℕ) (part : List A) → now ≡ over part (take (length before - at) (drop at before))
+      → take at before ++ (now ++ drop (length before - at) (drop at before)) ≡ putAt before at part
+  putAt-rest before now at part e =
+      let none : drop (length before - at) (drop at before) ≡ [] = drop-of-length-le (drop at before) (le-of-eq (length-drop at before)) in
+      rw (e, none, take-rest at before, append-nil, drop-drop (length part) at before) (sym (append-assoc (take at before) part (drop (at + length part) before)))
 
   -- a list keeps its length under a part that is put within it
   pub length-putAt : (before : List A) (at : ℕ) (part : List A) → at + length part ≤ length before → length (putAt before at part) ≡ length before
@@ -72,26 +82,6 @@ module _ {A B : Type 0} (partsOf : A → List B) (width : ℕ) (wide : (x : A) �
   each-append [] ys = refl
   each-append (x ∷ xs) ys = ap (λ (l : List B). partsOf x ++ l) (each-append xs ys) ∙ sym (append-assoc (partsOf x) (each partsOf xs) (each partsOf ys))
 
-  -- a turn of the loop that puts entries: the next one's bytes behind those of the entries before it
-  pub put-turn : (before now : List B) (at i place : ℕ) (xs : List A) (z : A) → i < length xs → at + width * length xs ≤ length before
-      → place ≡ at + width * i → now ≡ putAt before at (each partsOf (take i xs))
-      → putAt now place (partsOf (getD xs i z)) ≡ putAt before at (each partsOf (take (i + 1) xs))
-  put-turn before now at i place xs z h room e k =
-      let x : A = getD xs i z in
-      let written : List B = each partsOf (take i xs) in
-      let size : length written ≡ width * i = length-each (take i xs) ∙ ap (λ (l : ℕ). width * l) (length-take-le i xs (omega arith)) in
-      let more : width * suc i ≤ width * length xs = mul-le-mul-left width h in
-      let step : width * suc i ≡ width * i + width = mul-suc width i in
-      let fits : at + length written + length (partsOf x) ≤ length before = omega (arith, wide x) in
-      let behind : place ≡ at + length written = e ∙ ap (λ (l : ℕ). at + l) (sym size) in
-      ap (λ (l : List B). putAt l place (partsOf x)) k
-      ∙ ap (λ (l : ℕ). putAt (putAt before at written) l (partsOf x)) behind
-      ∙ putAt-join before at written (partsOf x) fits
-      ∙ ap (putAt before at)
-      (ap (λ (l : List B). written ++ l) (sym (append-nil (partsOf x)))
-      ∙ sym (each-append (take i xs) (x ∷ []))
-      ∙ ap (each partsOf) (sym (take-suc xs i z h) ∙ ap (λ (l : ℕ). take l xs) (sym (add-one i))))
-
 -- the entry at an index is the one that stands at its place
 pub entriesAt-entry : {A : Type 0} (read : ℕ → A) (width at count i : ℕ) (d : A) → i < count → getD (entriesAt read width at count) i d ≡ read (at + width * i)
 entriesAt-entry read width at zero i d h = absurd (omega arith)
@@ -99,14 +89,3 @@ entriesAt-entry read width at (suc count) zero d h = rw (mul-zero, add-zero)
 entriesAt-entry read width at (suc count) (suc i) d h =
     let place : at + width + width * i ≡ at + width * suc i = omega (arith, mul-suc width i) in
     entriesAt-entry read width (at + width) count i d (omega arith) ∙ ap read place
-
--- a turn of the loop that reads entries: the next one behind those before it
-pub read-turn : {A : Type 0} (read : ℕ → A) (width at i place : ℕ) (before now : List A) → i < length before → place ≡ at + width * i
-    → now ≡ over (entriesAt read width at i) before → set now i (read place) ≡ over (entriesAt read width at (i + 1)) before
-read-turn {A} read width at i place before now h e k =
-    ap (λ (l : List A). set l i (read place)) k
-    ∙ over-more (entriesAt read width at i) before (read place) (read place) i (length-entriesAt read width at i) h
-    ∙ ap (λ (l : List A). over l before)
-    (ap (λ (l : ℕ). entriesAt read width at i ++ (read l ∷ [])) e
-    ∙ sym (entriesAt-more read width at i)
-    ∙ ap (entriesAt read width at) (sym (add-one i)))

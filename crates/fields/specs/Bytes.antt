@@ -6,43 +6,33 @@ use lib.ListN.{length, getD}
 use mir.Syntax.{w32}
 use mir.Val.{ofZ}
 
--- a 16-bit number: two bytes
-abbrev pub u16Bytes : ℕ → List ℕ
+abbrev pub u16Bytes : ℕ → List ℕ  -- a 16-bit number: two bytes
 u16Bytes v = v % 256 ∷ v / 256 % 256 ∷ []
 
--- a 32-bit number: four bytes
-abbrev pub u32Bytes : ℕ → List ℕ
+abbrev pub u32Bytes : ℕ → List ℕ  -- a 32-bit number: four bytes
 u32Bytes v = v % 256 ∷ v / 256 % 256 ∷ v / 65536 % 256 ∷ v / 16777216 % 256 ∷ []
 
--- two's complement in 32 bits: the number itself, and 2^32 more than it below zero
-abbrev pub twosComplement : ℤ → ℕ
+abbrev pub twosComplement : ℤ → ℕ  -- two's complement in 32 bits: the number itself, and 2^32 more than it below zero
 twosComplement z = ofZ w32 z
 
--- a coordinate: four bytes, two's complement
-abbrev pub i32Bytes : ℤ → List ℕ
+abbrev pub i32Bytes : ℤ → List ℕ  -- a coordinate: four bytes, two's complement
 i32Bytes z = u32Bytes (twosComplement z)
 
--- the parts of each entry, as its bytes, one entry after the other
-abbrev pub each : {A B : Type 0} → (A → List B) → List A → List B
+abbrev pub each : {A B : Type 0} → (A → List B) → List A → List B  -- the parts of each entry, as its bytes, one entry after the other
 each partsOf [] = []
 each partsOf (x ∷ xs) = partsOf x ++ each partsOf xs
 
--- knots, two bytes each
-abbrev pub knotBytes : List ℕ → List ℕ
+abbrev pub knotBytes : List ℕ → List ℕ  -- knots, two bytes each
 knotBytes ts = each u16Bytes ts
 
--- coordinates, four bytes each
-abbrev pub coordinateBytes : List ℤ → List ℕ
+abbrev pub coordinateBytes : List ℤ → List ℕ  -- coordinates, four bytes each
 coordinateBytes zs = each i32Bytes zs
 
--- a field's tag, and the length of its contents in two bytes
-abbrev pub headBytes : ℕ → ℕ → List ℕ
-headBytes tag len = tag ∷ u16Bytes len
+abbrev pub fieldHead : ℕ → ℕ → List ℕ  -- a field's tag, and the length of its contents in two bytes
+fieldHead tag len = tag ∷ u16Bytes len
 
--- a field: its tag, the length of its contents in two bytes, its contents
-abbrev pub fieldBytes : ℕ → List ℕ → List ℕ
-fieldBytes tag contents = headBytes tag (length contents) ++ contents
+abbrev pub fieldBytes : ℕ → List ℕ → List ℕ  -- a field: its tag, the length of its contents in two bytes, its contents
+fieldBytes tag contents = fieldHead tag (length contents) ++ contents
 
--- every number is a byte's
-abbrev pub Octets : List ℕ → Type 0
+abbrev pub Octets : List ℕ → Type 0  -- every number is a byte's
 Octets bytes = (i : ℕ) → getD bytes i 0 < 256

@@ -2,7 +2,7 @@
 ghost use mathlib.Core.Path.{_≡_};
 ghost use Prim.Native.Nat.{_+_, _*_, _≤_, _<_};
 ghost use lib.ListN.{length};
-ghost use Rattle.fields.specs.Bytes.{twosComplement, u16Bytes, i32Bytes, headBytes, knotBytes, coordinateBytes};
+ghost use Rattle.fields.specs.Bytes.{twosComplement, u16Bytes, i32Bytes, fieldHead, knotBytes, coordinateBytes};
 ghost use Rattle.fields.specs.Places.{u16At, u32At, i32At, knotsAt, coordinatesAt, putAt};
 ghost use Rattle.lent.specs.Lent.{over};
 ghost use mir.Syntax.{w32};
@@ -83,8 +83,8 @@ pub fn put_i32(out: &mut [u8], at: usize, z: i32)
 
 // Puts a field's tag and the two bytes of its length from `at` on.
 pub fn put_head(out: &mut [u8], at: usize, tag: u8, len: usize)
-    requires { ⌜ at + 3 ≤ length (now out) ⌝ }
-    ensures result { λ _. ⌜ now (out .exit) ≡ putAt (now (out .entry)) at (headBytes tag len) ⌝ }
+    requires { ⌜ at + length (fieldHead tag len) ≤ length (now out) ⌝ }
+    ensures result { λ _. ⌜ now (out .exit) ≡ putAt (now (out .entry)) at (fieldHead tag len) ⌝ }
 {
     out[at] = tag;
     out[at + 1] = (len % 256) as u8;

@@ -12,6 +12,8 @@ use mir.Syntax.{w32}
 use mir.Val.{SFits, ofZ, toZ}
 use mir.Facts.{toZ-ofZ, fits-ofZ}
 use Rattle.fields.specs.Bytes.{u16Bytes, u32Bytes, i32Bytes, each, fieldBytes, knotBytes, coordinateBytes}
+use Rattle.curve.specs.Lists.{Lists}
+use Rattle.curve.proofs.ListLaws.{lists-same}
 use Rattle.format.specs.Format.{KnotsForm, form1, degreeTag, xTag, yTag, recordBytes, Storable}
 
 -- joins that are equal have equal parts, where the first parts are of one length
@@ -87,58 +89,47 @@ regrouped : (a b c d rest : List ℕ) → a ++ (b ++ (c ++ d)) ++ rest ≡ a ++ 
 regrouped a b c d rest = simp append-assoc
 
 -- a record and what follows it, field by field
-pub record-grouped : (form : KnotsForm) (m : ℕ) (ts : List ℕ) (xs ys : List ℤ) (rest : List ℕ)
-    → recordBytes form m ts xs ys ++ rest
+pub record-grouped : (form : KnotsForm) (m : ℕ) (c : Lists) (rest : List ℕ)
+    → recordBytes form m c ++ rest
     ≡ fieldBytes degreeTag (m ∷ [])
-    ++ (fieldBytes (form .tag) (form .bytesOf ts) ++ (fieldBytes xTag (coordinateBytes xs) ++ (fieldBytes yTag (coordinateBytes ys) ++ rest)))
+    ++ (fieldBytes (form .tag) (form .bytesOf (c .knots)) ++ (fieldBytes xTag (coordinateBytes (c .xs)) ++ (fieldBytes yTag (coordinateBytes (c .ys)) ++ rest)))
 unfolding recordBytes
-record-grouped form m ts xs ys rest =
-    regrouped (fieldBytes degreeTag (m ∷ [])) (fieldBytes (form .tag) (form .bytesOf ts)) (fieldBytes xTag (coordinateBytes xs))
-    (fieldBytes yTag (coordinateBytes ys)) rest
+record-grouped form m c rest =
+    regrouped (fieldBytes degreeTag (m ∷ [])) (fieldBytes (form .tag) (form .bytesOf (c .knots))) (fieldBytes xTag (coordinateBytes (c .xs)))
+    (fieldBytes yTag (coordinateBytes (c .ys))) rest
 
--- the same lists, and the same bytes behind them
-pub record Same (m : ℕ) (ts : List ℕ) (xs ys : List ℤ) (rest : List ℕ) (m₁ : ℕ) (ts₁ : List ℕ) (xs₁ ys₁ : List ℤ) (rest₁ : List ℕ) : Type 0 where
-  pub degree : m ≡ m₁
-  pub knots : ts ≡ ts₁
-  pub onX : xs ≡ xs₁
-  pub onY : ys ≡ ys₁
-  pub left : rest ≡ rest₁
+-- the same degree and lists, and the same bytes behind them
+pub record Same (m : ℕ) (c : Lists) (rest : List ℕ) (n : ℕ) (d : Lists) (left : List ℕ) : Type 0 where
+  pub degree : m ≡ n
+  pub curve : c ≡ d
+  pub behind : rest ≡ left
 
 -- lists and what follows them are told by their bytes, in any form of the knots' field that tells its knots
 pub record-injective : (form : KnotsForm) → form .most < 65536
     → ((ts us : List ℕ) → ((i : ℕ) → getD ts i 0 < 65536) → ((i : ℕ) → getD us i 0 < 65536) → form .bytesOf ts ≡ form .bytesOf us → ts ≡ us)
-    → (m : ℕ) (ts : List ℕ) (xs ys : List ℤ) (rest : List ℕ) (m₁ : ℕ) (ts₁ : List ℕ) (xs₁ ys₁ : List ℤ) (rest₁ : List ℕ)
-    → Storable form m ts xs ys → Storable form m₁ ts₁ xs₁ ys₁
-    → recordBytes form m ts xs ys ++ rest ≡ recordBytes form m₁ ts₁ xs₁ ys₁ ++ rest₁ → Same m ts xs ys rest m₁ ts₁ xs₁ ys₁ rest₁
-record-injective form short told m ts xs ys rest m₁ ts₁ xs₁ ys₁ rest₁ s s₁ e =
-    let k : List ℕ = form .bytesOf ts in
-    let k₁ : List ℕ = form .bytesOf ts₁ in
-    let x : List ℕ = coordinateBytes xs in
-    let x₁ : List ℕ = coordinateBytes xs₁ in
-    let y : List ℕ = coordinateBytes ys in
-    let y₁ : List ℕ = coordinateBytes ys₁ in
-    let fromY : List ℕ = fieldBytes yTag y ++ rest in
-    let fromY₁ : List ℕ = fieldBytes yTag y₁ ++ rest₁ in
-    let fromX : List ℕ = fieldBytes xTag x ++ fromY in
-    let fromX₁ : List ℕ = fieldBytes xTag x₁ ++ fromY₁ in
-    let fromK : List ℕ = fieldBytes (form .tag) k ++ fromX in
-    let fromK₁ : List ℕ = fieldBytes (form .tag) k₁ ++ fromX₁ in
-    let whole : fieldBytes degreeTag (m ∷ []) ++ fromK ≡ fieldBytes degreeTag (m₁ ∷ []) ++ fromK₁ =
-    sym (record-grouped form m ts xs ys rest) ∙ e ∙ record-grouped form m₁ ts₁ xs₁ ys₁ rest₁ in
-    let a = field-injective degreeTag (m ∷ []) (m₁ ∷ []) fromK fromK₁ (lit< tt) (lit< tt) whole in
-    let b = field-injective (form .tag) k k₁ fromX fromX₁ (omega (arith, s .knotRoom, short)) (omega (arith, s₁ .knotRoom, short)) (a .1) in
-    let c = field-injective xTag x x₁ fromY fromY₁ (omega (arith, s .xRoom)) (omega (arith, s₁ .xRoom)) (b .1) in
-    let d = field-injective yTag y y₁ rest rest₁ (omega (arith, s .yRoom)) (omega (arith, s₁ .yRoom)) (c .1) in
+    → (m : ℕ) (c : Lists) (rest : List ℕ) (n : ℕ) (d : Lists) (left : List ℕ) → Storable form m c → Storable form n d
+    → recordBytes form m c ++ rest ≡ recordBytes form n d ++ left → Same m c rest n d left
+record-injective form short injective m c rest n d left s t e =
+    let fromY : Lists → List ℕ → List ℕ = λ l behind. fieldBytes yTag (coordinateBytes (l .ys)) ++ behind in
+    let fromX : Lists → List ℕ → List ℕ = λ l behind. fieldBytes xTag (coordinateBytes (l .xs)) ++ fromY l behind in
+    let fromK : Lists → List ℕ → List ℕ = λ l behind. fieldBytes (form .tag) (form .bytesOf (l .knots)) ++ fromX l behind in
+    let whole : fieldBytes degreeTag (m ∷ []) ++ fromK c rest ≡ fieldBytes degreeTag (n ∷ []) ++ fromK d left =
+    sym (record-grouped form m c rest) ∙ e ∙ record-grouped form n d left in
+    let one = field-injective degreeTag (m ∷ []) (n ∷ []) (fromK c rest) (fromK d left) (lit< tt) (lit< tt) whole in
+    let two = field-injective (form .tag) (form .bytesOf (c .knots)) (form .bytesOf (d .knots)) (fromX c rest) (fromX d left)
+    (omega (arith, s .knotRoom, short)) (omega (arith, t .knotRoom, short)) (one .1) in
+    let three = field-injective xTag (coordinateBytes (c .xs)) (coordinateBytes (d .xs)) (fromY c rest) (fromY d left)
+    (omega (arith, s .xRoom)) (omega (arith, t .xRoom)) (two .1) in
+    let four = field-injective yTag (coordinateBytes (c .ys)) (coordinateBytes (d .ys)) rest left (omega (arith, s .yRoom)) (omega (arith, t .yRoom)) (three .1) in
     record {
-      degree = same-at (m ∷ []) (m₁ ∷ []) 0 (a .0);
-      knots = told ts ts₁ (s .knots) (s₁ .knots) (b .0);
-      onX = coordinates-injective xs xs₁ (s .onX) (s₁ .onX) (c .0);
-      onY = coordinates-injective ys ys₁ (s .onY) (s₁ .onY) (d .0);
-      left = d .1;
+      degree = same-at (m ∷ []) (n ∷ []) 0 (one .0);
+      curve =
+          lists-same (injective (c .knots) (d .knots) (s .knots) (t .knots) (two .0)) (coordinates-injective (c .xs) (d .xs) (s .onX) (t .onX) (three .0))
+          (coordinates-injective (c .ys) (d .ys) (s .onY) (t .onY) (four .0));
+      behind = four .1;
     }
 
 -- form 1 tells its knots
-pub form1-injective : (m : ℕ) (ts : List ℕ) (xs ys : List ℤ) (rest : List ℕ) (m₁ : ℕ) (ts₁ : List ℕ) (xs₁ ys₁ : List ℤ) (rest₁ : List ℕ)
-    → Storable form1 m ts xs ys → Storable form1 m₁ ts₁ xs₁ ys₁
-    → recordBytes form1 m ts xs ys ++ rest ≡ recordBytes form1 m₁ ts₁ xs₁ ys₁ ++ rest₁ → Same m ts xs ys rest m₁ ts₁ xs₁ ys₁ rest₁
+pub form1-injective : (m : ℕ) (c : Lists) (rest : List ℕ) (n : ℕ) (d : Lists) (left : List ℕ) → Storable form1 m c → Storable form1 n d
+    → recordBytes form1 m c ++ rest ≡ recordBytes form1 n d ++ left → Same m c rest n d left
 form1-injective = record-injective form1 (lit< tt) knots-injective

@@ -12,11 +12,11 @@ use lib.Signed.{nonNeg, leZ, ltZ, _≤ℤ_}
 use Rattle.algebra.specs.Operations.{sub}
 use Rattle.algebra.specs.OrderedField as Field
 use Rattle.fractions.specs.Fraction.{Fraction, lower, whole, wholeN, sum, product, negation, reciprocal, fractionOperations}
-use Rattle.fractions.specs.Order.{crossed, Equals, AtMost, Below, Bounds, DistanceBelow}
+use Rattle.fractions.specs.Order.{crossed, AtMost, Below, Bounds, DistanceBelow}
 use Rattle.algebra.proofs.IntegerRing.{mul-one}
 use Rattle.fractions.proofs.IntegerLaws.{neg-mul}
 use Rattle.fractions.proofs.SignLaws.{true-of, holds-of, difference-sign, ltZ-not}
-use Rattle.fractions.proofs.Rational.{class, plus, times, minus, inverse, notNegative, rational, rationalOperations, class-of-equals, equals-of-class}
+use Rattle.fractions.proofs.Rational.{class, plus, times, minus, inverse, notNegative, rational, rationalOperations}
 
 -- ---- the operations
 
@@ -41,9 +41,6 @@ unfolding plus minus Quotient·lift₂
 class-sub a b = refl
 
 -- ---- equality and order
-
-pub class-equals : (a b : Fraction) → Equals a b ↔ (class a ≡ class b)
-class-equals a b = (λ h. class-of-equals h, λ h. equals-of-class a b h)
 
 -- b - a is at least zero exactly when a's cross product is at most b's
 pub class-sign : (a b : Fraction) → notNegative (sub rationalOperations (class b) (class a)) ≡ leZ (crossed a b) (crossed b a)

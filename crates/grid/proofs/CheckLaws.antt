@@ -21,37 +21,46 @@ pub record TestsPass (m : ℕ) (ts : List ℕ) (xs ys : List ℤ) : Type 0 where
   pub range : rangeOk xs ys ≡ true
 
 module _ (m : ℕ) (ts : List ℕ) (xs ys : List ℤ) where
+  -- the first test that fails gives the number
   pub check-degree : degreeOk m ≡ false → degreeRefused ≡ checkNumber m ts xs ys
   unfolding checkNumber checkedThen
   check-degree p = rw p
 
-  pub check-points : degreeOk m ≡ true → pointCountOk m xs ys ≡ false → pointCountRefused ≡ checkNumber m ts xs ys
-  unfolding checkNumber checkedThen
-  check-points p q = rw (p, q)
+  module _ (p : degreeOk m ≡ true) where
+    pub check-points : pointCountOk m xs ys ≡ false → pointCountRefused ≡ checkNumber m ts xs ys
+    unfolding checkNumber checkedThen
+    check-points q = rw (p, q)
 
-  pub check-knots : degreeOk m ≡ true → pointCountOk m xs ys ≡ true → knotCountOk m ts xs ≡ false → knotCountRefused ≡ checkNumber m ts xs ys
-  unfolding checkNumber checkedThen
-  check-knots p q r = rw (p, q, r)
+    module _ (q : pointCountOk m xs ys ≡ true) where
+      pub check-knots : knotCountOk m ts xs ≡ false → knotCountRefused ≡ checkNumber m ts xs ys
+      unfolding checkNumber checkedThen
+      check-knots r = rw (p, q, r)
 
-  pub check-order : degreeOk m ≡ true → pointCountOk m xs ys ≡ true → knotCountOk m ts xs ≡ true → knotOrderOk ts ≡ false → knotOrderRefused ≡ checkNumber m ts xs ys
-  unfolding checkNumber checkedThen
-  check-order p q r s = rw (p, q, r, s)
+      module _ (r : knotCountOk m ts xs ≡ true) where
+        pub check-order : knotOrderOk ts ≡ false → knotOrderRefused ≡ checkNumber m ts xs ys
+        unfolding checkNumber checkedThen
+        check-order s = rw (p, q, r, s)
 
-  pub check-ends : degreeOk m ≡ true → pointCountOk m xs ys ≡ true → knotCountOk m ts xs ≡ true → knotOrderOk ts ≡ true → endsOk m ts ≡ false → endsRefused ≡ checkNumber m ts xs ys
-  unfolding checkNumber checkedThen
-  check-ends p q r s t = rw (p, q, r, s, t)
+        module _ (s : knotOrderOk ts ≡ true) where
+          pub check-ends : endsOk m ts ≡ false → endsRefused ≡ checkNumber m ts xs ys
+          unfolding checkNumber checkedThen
+          check-ends t = rw (p, q, r, s, t)
 
-  pub check-repeats : degreeOk m ≡ true → pointCountOk m xs ys ≡ true → knotCountOk m ts xs ≡ true → knotOrderOk ts ≡ true → endsOk m ts ≡ true → repeatsOk m ts ≡ false → repeatsRefused ≡ checkNumber m ts xs ys
-  unfolding checkNumber checkedThen
-  check-repeats p q r s t u = rw (p, q, r, s, t, u)
+          module _ (t : endsOk m ts ≡ true) where
+            pub check-repeats : repeatsOk m ts ≡ false → repeatsRefused ≡ checkNumber m ts xs ys
+            unfolding checkNumber checkedThen
+            check-repeats u = rw (p, q, r, s, t, u)
 
-  pub check-range : degreeOk m ≡ true → pointCountOk m xs ys ≡ true → knotCountOk m ts xs ≡ true → knotOrderOk ts ≡ true → endsOk m ts ≡ true → repeatsOk m ts ≡ true → rangeOk xs ys ≡ false → rangeRefused ≡ checkNumber m ts xs ys
-  unfolding checkNumber checkedThen
-  check-range p q r s t u v = rw (p, q, r, s, t, u, v)
+            module _ (u : repeatsOk m ts ≡ true) where
+              pub check-range : rangeOk xs ys ≡ false → rangeRefused ≡ checkNumber m ts xs ys
+              unfolding checkNumber checkedThen
+              check-range v = rw (p, q, r, s, t, u, v)
 
-  pub check-accepts : degreeOk m ≡ true → pointCountOk m xs ys ≡ true → knotCountOk m ts xs ≡ true → knotOrderOk ts ≡ true → endsOk m ts ≡ true → repeatsOk m ts ≡ true → rangeOk xs ys ≡ true → accepted ≡ checkNumber m ts xs ys
-  unfolding checkNumber checkedThen
-  check-accepts p q r s t u v = rw (p, q, r, s, t, u, v)
+              module _ (v : rangeOk xs ys ≡ true) where
+                -- none fails
+                pub check-accepts : accepted ≡ checkNumber m ts xs ys
+                unfolding checkNumber checkedThen
+                check-accepts = rw (p, q, r, s, t, u, v)
 
   -- what is judged after the check is judged exactly where the check refuses nothing
   pub checkedThen-split : (next : ℕ) → checkedThen m ts xs ys next ≡ cond (eqb (checkNumber m ts xs ys) 0) next (checkNumber m ts xs ys)

@@ -9,7 +9,7 @@ use lib.ListN.{length}
 use borrow.Author.Tests.{leb-true, eqb-true}
 use Rattle.grid.specs.Limits.{pointsMost}
 use Rattle.grid.specs.Rows.{degreeOk, pointCountOk, knotCountOk}
-use Rattle.grid.proofs.OrderLaws.{both}
+use Rattle.refusal.proofs.JudgingLaws.{both}
 
 pub degree-of-test : (m : ℕ) → degreeOk m ≡ true → (1 ≤ m) × (m ≤ 3)
 unfolding degreeOk

@@ -1,38 +1,27 @@
 -- Row 5 in knots that never fall: m+1 equal knots stand at an end exactly where the innermost of them equals the outermost.
-use mathlib.Core.Bool.{true, false, not, _&&_, and-false}
-use mathlib.Core.List.{List, [], _∷_}
+use mathlib.Core.Bool.{true, not, _&&_}
+use mathlib.Core.List.{List}
 use mathlib.Core.Path.{_≡_, refl, sym, _∙_}
-use Prim.Native.Nat.{ℕ, zero, suc, _+_, _-_, _≤_, _<_}
-use native.Mathlib.Decide.{ℕ-discrete}
+use Prim.Native.Nat.{ℕ, _+_, _-_, _≤_, _<_}
 use native.Mathlib.Omega.{arith}
 use lib.Dec.{eqb}
 use lib.ListN.{length, getD, take, drop, length-drop}
 use lib.Seq.{getD-take, getD-drop, length-take-le}
-use borrow.Author.Tests.{eq-eqb, ne-eqb, eqb-false, not-true}
+use borrow.Author.Tests.{eq-eqb, eqb-true, eqb-false, not-true}
 use Rattle.grid.specs.Rows.{risesFrom, firstKnot, lastKnot, allAre, endsOk}
-use Rattle.grid.proofs.OrderLaws.{both}
+use Rattle.refusal.proofs.JudgingLaws.{both}
+use Rattle.grid.proofs.EntryLaws.{every-holds, every-fails}
+use Rattle.grid.proofs.FlagLaws.{flag-tells}
 use Rattle.grid.proofs.RepeatLaws.{rises-between}
-
--- every entry is v
-allAre-holds : (v : ℕ) (l : List ℕ) → ((j : ℕ) → j < length l → getD l j 0 ≡ v) → allAre v l ≡ true
-unfolding allAre
-allAre-holds v [] all = refl
-allAre-holds v (t ∷ l) all = rw (eq-eqb t v (all 0 (omega arith)), allAre-holds v l (λ j i. all (suc j) (omega arith)))
-
--- one entry is not
-allAre-breaks : (v : ℕ) (l : List ℕ) (j : ℕ) → j < length l → (getD l j 0 ≡ v → ⊥) → allAre v l ≡ false
-unfolding allAre
-allAre-breaks v [] j i n = absurd (omega arith)
-allAre-breaks v (t ∷ l) zero i n = rw (ne-eqb t v n)
-allAre-breaks v (t ∷ l) (suc j) i n = rw (allAre-breaks v l j (omega arith) n) (and-false (eqb t v))
 
 -- an entry decides for all: every entry is v exactly where it is
 allAre-by : (v : ℕ) (l : List ℕ) (k : ℕ) → k < length l → (getD l k 0 ≡ v → (j : ℕ) → j < length l → getD l j 0 ≡ v) → allAre v l ≡ eqb (getD l k 0) v
+unfolding allAre
 allAre-by v l k i all =
-    elim (ℕ-discrete (getD l k 0) v) [
-      | yes e ↦ allAre-holds v l (all e) ∙ sym (eq-eqb (getD l k 0) v e)
-      | no n ↦ allAre-breaks v l k i n ∙ sym (ne-eqb (getD l k 0) v n)
-    ]
+    sym
+    (flag-tells (eqb (getD l k 0) v) (allAre v l)
+    (λ e. every-holds (λ t. eqb t v) (allAre v) refl (λ t ts. refl) 0 l (λ j h. eq-eqb (getD l j 0) v (all (eqb-true (getD l k 0) v e) j h)))
+    (λ e. every-fails (λ t. eqb t v) (allAre v) refl (λ t ts. refl) 0 l k i e))
 
 module _ (m : ℕ) (ts : List ℕ) (long : m + 1 ≤ length ts) (rises : risesFrom 0 ts ≡ true) where
   front-by : allAre (firstKnot ts) (take (m + 1) ts) ≡ eqb (getD ts m 0) (firstKnot ts)

@@ -1,10 +1,12 @@
 -- Laws of the check's tests.
 pub mod CheckLaws
 pub mod CountLaws
-pub mod OrderLaws
 pub mod EntryLaws
+pub mod FlagLaws
+pub mod OrderLaws
 pub mod RepeatLaws
 pub mod EndLaws
 pub mod InnerLaws
 pub mod ThenLaws
 pub mod SizeLaws
+mod Controls

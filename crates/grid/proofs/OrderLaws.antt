@@ -1,73 +1,63 @@
--- Knots that never fall (row 4): the test one entry at a time, and the last of them is the largest.
-use mathlib.Core.Bool.{Bool, true, false, _&&_, and-true, and-false, false≢true}
+-- Row 4 by the steps from one knot to the next: knots that nowhere fall pass exactly where the last of them, the largest, does.
+use mathlib.Core.Bool.{true, false}
 use mathlib.Core.List.{List, [], _∷_}
-use mathlib.Core.Path.{_≡_, refl, sym, _∙_}
-use Prim.Native.Nat.{ℕ, suc, _+_, _-_, _≤_, _<_}
-use native.Mathlib.Nat.{le-refl}
-use native.Mathlib.Numerals.{add-one}
+use mathlib.Core.Path.{_≡_, refl}
+use Prim.Native.Nat.{ℕ, zero, suc, _+_, _-_, _≤_, _<_, zero-le}
+use native.Mathlib.Nat.{le-refl, add-zero}
 use native.Mathlib.Omega.{arith}
 use lib.Dec.{leb}
-use lib.ListN.{length, getD, drop, drop-of-length-le}
-use lib.Seq.{drop-cons}
-use borrow.Author.Tests.{le-leb, lt-leb, leb-true}
+use lib.ListN.{length, getD}
+use borrow.Author.Tests.{le-leb, leb-true, leb-false}
 use Rattle.grid.specs.Limits.{knotMost}
 use Rattle.grid.specs.Rows.{risesFrom, knotOrderOk, lastKnot}
+use Rattle.grid.proofs.FlagLaws.{fails, flag-tells}
+use Rattle.grid.proofs.RepeatLaws.{rises-between, rises-most}
 
--- a conjunction that holds, part by part
-pub both : (a b : Bool) → (a && b) ≡ true → (a ≡ true) × (b ≡ true)
-both true b e = (refl, e)
-both false b e = absurd (false≢true e)
+-- knot j is below the one before it
+abbrev pub Falls : List ℕ → ℕ → Type 0
+Falls ts j = getD ts j 0 < getD ts (j - 1) 0
 
--- no entry is below `low` or below the one before it
-unfoldable pub neverFalls : ℕ → List ℕ → Bool
-neverFalls low [] = true
-neverFalls low (t ∷ ts) = leb low t && neverFalls t ts
+-- each entry is not below the one before it, `low` standing before the first, and none is above the largest
+rises-of : (low : ℕ) (ts : List ℕ) → ((j : ℕ) → j < length ts → getD (low ∷ ts) j 0 ≤ getD ts j 0) → ((j : ℕ) → j < length ts → getD ts j 0 ≤ knotMost)
+    → risesFrom low ts ≡ true
+unfolding risesFrom
+rises-of low [] steps most = refl
+rises-of low (t ∷ ts) steps most =
+    rw (
+      le-leb low t (steps 0 (omega arith)),
+      le-leb t knotMost (most 0 (omega arith)),
+      rises-of t ts (λ j i. steps (suc j) (omega arith)) (λ j i. most (suc j) (omega arith)),
+    )
 
-module _ (ks : List ℕ) (low i : ℕ) where
-  order-step : i < length ks → neverFalls low (drop i ks) ≡ (leb low (getD ks i 0) && neverFalls (getD ks i 0) (drop (i + 1) ks))
-  unfolding neverFalls
-  order-step h = rw (add-one, drop-cons ks i 0)
+module _ (ts : List ℕ) where
+  -- one that falls
+  pub order-falls : (j : ℕ) → 1 ≤ j → j < length ts → Falls ts j → knotOrderOk ts ≡ false
+  unfolding knotOrderOk
+  order-falls j l i w = fails (risesFrom 0 ts) (λ h. omega (arith, rises-between 0 ts (j - 1) j h (omega arith) i))
 
-  -- an entry in order: the test goes on from it
-  pub order-on : i < length ks → low ≤ getD ks i 0 → neverFalls low (drop i ks) ≡ neverFalls (getD ks i 0) (drop (i + 1) ks)
-  order-on h l = order-step h ∙ rw (le-leb low (getD ks i 0) l)
+  module _ (none : (j : ℕ) → j < length ts → 1 ≤ j → Falls ts j → ⊥) where
+    -- step by step
+    climbs : (a d : ℕ) → a + d < length ts → getD ts a 0 ≤ getD ts (a + d) 0
+    climbs a zero i = rw (add-zero a) (le-refl (getD ts a 0))
+    climbs a (suc d) i =
+        let before : a + suc d - 1 ≡ a + d = omega arith in
+        let step : getD ts (a + suc d) 0 < getD ts (a + d) 0 → ⊥ = rw before at (none (a + suc d) i (omega arith)) in
+        let lower = climbs a d (omega arith) in
+        omega arith
 
-  -- an entry below the one before it
-  pub order-falls : i < length ks → getD ks i 0 < low → neverFalls low (drop i ks) ≡ false
-  order-falls h l = order-step h ∙ rw (lt-leb low (getD ks i 0) l)
+    steps : (j : ℕ) → j < length ts → getD (0 ∷ ts) j 0 ≤ getD ts j 0
+    steps zero i = zero-le
+    steps (suc j) i =
+        let before : suc j - 1 ≡ j = omega arith in
+        let step : getD ts (suc j) 0 < getD ts j 0 → ⊥ = rw before at (none (suc j) i (omega arith)) in
+        omega arith
 
-  -- past the last entry
-  pub order-end : length ks ≤ i → neverFalls low (drop i ks) ≡ true
-  unfolding neverFalls
-  order-end h = rw (drop-of-length-le ks h)
-
--- where no entry falls, the first is not above the last
-first-least : (t : ℕ) (ts : List ℕ) → neverFalls t ts ≡ true → t ≤ getD (t ∷ ts) (length ts) 0
-unfolding neverFalls
-first-least t [] h = le-refl t
-first-least t (u ∷ ts) h =
-    let p = both (leb t u) (neverFalls u ts) h in
-    omega (arith, leb-true t u (p .0), first-least u ts (p .1))
-
--- a test that the two after it imply is no test
-implied : (a b c d : Bool) → (c ≡ true → d ≡ true → b ≡ true) → (a && b && (c && d)) ≡ (a && c && d)
-implied false b c d h = refl
-implied true b false d h = and-false b
-implied true b true false h = and-false b
-implied true b true true h = rw (h refl refl)
-
--- so it is enough to hold the last one to the limit
-rises-split : (low t : ℕ) (ts : List ℕ) → risesFrom low (t ∷ ts) ≡ (neverFalls low (t ∷ ts) && leb (getD (t ∷ ts) (length ts) 0) knotMost)
-unfolding neverFalls risesFrom
-rises-split low t [] = and-true (leb low t && leb t knotMost) ∙ rw (and-true (leb low t))
-rises-split low t (u ∷ ts) =
-    let last = getD (u ∷ ts) (length ts) 0 in
-    rw (rises-split t u ts)
-    (implied (leb low t) (leb t knotMost) (neverFalls t (u ∷ ts)) (leb last knotMost) (λ c d. le-leb t knotMost (omega (arith, first-least t (u ∷ ts) c, leb-true last knotMost d))))
-
-pub order-of-last : (ks : List ℕ) → 1 ≤ length ks → knotOrderOk ks ≡ (neverFalls 0 ks && leb (lastKnot ks) knotMost)
-unfolding knotOrderOk
-order-of-last [] h = absurd (omega arith)
-order-of-last (t ∷ ts) h =
-    let back : suc (length ts) - 1 ≡ length ts = omega arith in
-    rw back (rises-split 0 t ts)
+    -- none that falls: the last knot decides
+    pub order-by-last : 1 ≤ length ts → leb (lastKnot ts) knotMost ≡ knotOrderOk ts
+    unfolding knotOrderOk
+    order-by-last some =
+        flag-tells (leb (lastKnot ts) knotMost) (risesFrom 0 ts)
+        (λ e. rises-of 0 ts steps
+        (λ j i. let there : j + (length ts - 1 - j) ≡ length ts - 1 = omega arith in
+        omega (arith, leb-true (lastKnot ts) knotMost e, rw there at (climbs j (length ts - 1 - j) (omega arith)))))
+        (λ e. fails (risesFrom 0 ts) (λ h. omega (arith, leb-false (lastKnot ts) knotMost e, rises-most 0 ts h (length ts - 1) (omega arith))))

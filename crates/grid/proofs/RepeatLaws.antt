@@ -1,5 +1,5 @@
 -- Counting in knots that never fall (row 6): a value stands more than k times exactly where a knot equals the k-th after it.
-use mathlib.Core.Bool.{Bool, true, false, cond, _&&_, and-false, true≢false}
+use mathlib.Core.Bool.{Bool, true, false, _&&_, true≢false}
 use mathlib.Core.List.{List, [], _∷_}
 use mathlib.Core.Path.{_≡_, refl, sym, _∙_, subst}
 use Prim.Native.Nat.{ℕ, zero, suc, _+_, _-_, _≤_, _<_, zero-le, suc-le-suc}
@@ -12,7 +12,8 @@ use lib.Seq.{getD-drop}
 use borrow.Author.Tests.{le-leb, lt-leb, leb-true, eq-eqb, ne-eqb, eqb-true, lt-ltb, ltb-true}
 use Rattle.grid.specs.Limits.{knotMost}
 use Rattle.grid.specs.Rows.{risesFrom, occurrences, repeatsMost, repeatsWithin, repeatsOk}
-use Rattle.grid.proofs.OrderLaws.{both}
+use Rattle.refusal.proofs.JudgingLaws.{both}
+use Rattle.grid.proofs.EntryLaws.{every-holds, every-fails}
 
 -- the head of knots that never fall, and the rest
 pub rises-cons : (low t : ℕ) (ts : List ℕ) → risesFrom low (t ∷ ts) ≡ true → (low ≤ t) × (risesFrom t ts ≡ true) × (t ≤ knotMost)
@@ -38,6 +39,12 @@ rises-above low (t ∷ ts) (suc k) h l =
     let p = rises-cons low t ts h in
     let q = rises-above t ts k (p .1) (omega arith) in
     omega arith
+
+-- and none is above the largest
+pub rises-most : (low : ℕ) (ts : List ℕ) → risesFrom low ts ≡ true → (k : ℕ) → k < length ts → getD ts k 0 ≤ knotMost
+rises-most low [] h k l = absurd (omega arith)
+rises-most low (t ∷ ts) h zero l = (rises-cons low t ts h) .2
+rises-most low (t ∷ ts) h (suc k) l = rises-most t ts ((rises-cons low t ts h) .1) k (omega arith)
 
 -- from entry i on, nothing is below entry i
 pub rises-drop : (low : ℕ) (ts : List ℕ) (i : ℕ) → risesFrom low ts ≡ true → i < length ts → risesFrom (getD ts i 0) (drop i ts) ≡ true
@@ -130,25 +137,6 @@ abbrev pub equalsFar : ℕ → List ℕ → ℕ → Bool
 equalsFar m ts j =
     ltb (j + repeatsMost m ts (getD ts j 0)) (length ts) && eqb (getD ts (j + repeatsMost m ts (getD ts j 0)) 0) (getD ts j 0)
 
--- a value may stand m times, or once more
-pub most-bound : (end : Bool) (m : ℕ) → cond end (m + 1) m ≤ m + 1
-most-bound true m = le-refl (m + 1)
-most-bound false m = omega arith
-
--- every value is within its bound
-within-holds : (m : ℕ) (ts vs : List ℕ) → ((v : ℕ) → occurrences v ts ≤ repeatsMost m ts v) → repeatsWithin m ts vs ≡ true
-unfolding repeatsWithin
-within-holds m ts [] all = refl
-within-holds m ts (v ∷ vs) all = rw (le-leb (occurrences v ts) (repeatsMost m ts v) (all v), within-holds m ts vs all)
-
--- one entry is past its bound
-within-fails : (m : ℕ) (ts vs : List ℕ) (j : ℕ) → j < length vs → repeatsMost m ts (getD vs j 0) < occurrences (getD vs j 0) ts
-    → repeatsWithin m ts vs ≡ false
-unfolding repeatsWithin
-within-fails m ts [] j l h = absurd (omega arith)
-within-fails m ts (v ∷ vs) zero l h = rw (lt-leb (occurrences v ts) (repeatsMost m ts v) h)
-within-fails m ts (v ∷ vs) (suc j) l h = rw (within-fails m ts vs j (omega arith) h) (and-false (leb (occurrences v ts) (repeatsMost m ts v)))
-
 -- the test at a knot of value v
 equalsFar-no : (m : ℕ) (ts : List ℕ) (v j l : ℕ) → equalsFar m ts j ≡ false → l ≡ j + repeatsMost m ts v → l < length ts → getD ts j 0 ≡ v → getD ts l 0 ≡ v → ⊥
 equalsFar-no m ts v j l h a b c d =
@@ -159,14 +147,17 @@ equalsFar-no m ts v j l h a b c d =
 
 -- no knot has its equal that far on: row 6 passes
 pub repeats-hold : (m : ℕ) (ts : List ℕ) → risesFrom 0 ts ≡ true → ((j : ℕ) → j < length ts → equalsFar m ts j ≡ false) → repeatsOk m ts ≡ true
-unfolding repeatsOk
+unfolding repeatsOk repeatsWithin
 repeats-hold m ts h all =
-    within-holds m ts ts
-    (λ v. occurrences-most v (repeatsMost m ts v) 0 ts h (λ j l a b c d. equalsFar-no m ts v j l (all j (omega arith)) a b c d))
+    every-holds (λ v. leb (occurrences v ts) (repeatsMost m ts v)) (repeatsWithin m ts) refl (λ v vs. refl) 0 ts
+    (λ i k.
+    let v = getD ts i 0 in
+    le-leb (occurrences v ts) (repeatsMost m ts v)
+    (occurrences-most v (repeatsMost m ts v) 0 ts h (λ j l a b c d. equalsFar-no m ts v j l (all j (omega arith)) a b c d)))
 
 -- one knot has: row 6 refuses
 pub repeats-fail : (m : ℕ) (ts : List ℕ) → risesFrom 0 ts ≡ true → (j : ℕ) → j < length ts → equalsFar m ts j ≡ true → repeatsOk m ts ≡ false
-unfolding repeatsOk
+unfolding repeatsOk repeatsWithin
 repeats-fail m ts h j l e =
     let v = getD ts j 0 in
     let k = repeatsMost m ts (getD ts j 0) in
@@ -174,4 +165,5 @@ repeats-fail m ts h j l e =
     let far : j + k < length ts = ltb-true (j + k) (length ts) (p .0) in
     let n : k < occurrences v (drop j ts) =
     occurrences-front v k (drop j ts) (rises-drop 0 ts j h l) (rw (length-drop j ts) (omega arith)) (getD-drop j ts k 0 ∙ eqb-true (getD ts (j + k) 0) v (p .1)) in
-    within-fails m ts ts j l (omega (arith, occurrences-drop v j ts))
+    every-fails (λ w. leb (occurrences w ts) (repeatsMost m ts w)) (repeatsWithin m ts) refl (λ w ws. refl) 0 ts j l
+    (lt-leb (occurrences v ts) k (omega (arith, occurrences-drop v j ts)))

@@ -17,10 +17,8 @@ checkedThen m ts xs ys next =
     (unless (endsOk m ts) endsRefused
     (unless (repeatsOk m ts) repeatsRefused (unless (rangeOk xs ys) rangeRefused next))))))
 
--- the check's answer
-unfoldable pub checkNumber : ℕ → List ℕ → List ℤ → List ℤ → ℕ
+unfoldable pub checkNumber : ℕ → List ℕ → List ℤ → List ℤ → ℕ  -- the check's answer
 checkNumber m ts xs ys = checkedThen m ts xs ys accepted
 
--- the curve passes the check
-abbrev pub Passes : ℕ → List ℕ → List ℤ → List ℤ → Type 0
+abbrev pub Passes : ℕ → List ℕ → List ℤ → List ℤ → Type 0  -- the curve passes the check
 Passes m ts xs ys = checkNumber m ts xs ys ≡ accepted

@@ -2,60 +2,50 @@
 -- `m` is the degree, `ts` the knots, `xs` and `ys` the coordinates.
 use mathlib.Core.Bool.{Bool, true, not, cond, _&&_, _||_}
 use mathlib.Core.List.{List, [], _∷_}
-use Prim.Native.Nat.{ℕ, zero, suc, _+_, _-_}
+use Prim.Native.Nat.{ℕ, suc, _+_, _-_}
 use lib.Dec.{leb, eqb}
 use lib.IntN.{ℤ, pos, negℤ}
 use lib.ListN.{length, getD, take, drop}
 use lib.Signed.{leZ}
 use Rattle.grid.specs.Limits.{pointsMost, knotMost, coordinateMost}
 
--- row 1: the degree is 1, 2 or 3
-unfoldable pub degreeOk : ℕ → Bool
+unfoldable pub degreeOk : ℕ → Bool  -- row 1: the degree is 1, 2 or 3
 degreeOk m = leb 1 m && leb m 3
 
--- row 2: as many x as y, at least m+1 of them and at most 1,024
-unfoldable pub pointCountOk : ℕ → List ℤ → List ℤ → Bool
+unfoldable pub pointCountOk : ℕ → List ℤ → List ℤ → Bool  -- row 2: as many x as y, at least m+1 of them and at most 1,024
 pointCountOk m xs ys = eqb (length xs) (length ys) && leb (m + 1) (length xs) && leb (length xs) pointsMost
 
--- row 3: points + m + 1 knots
-unfoldable pub knotCountOk : ℕ → List ℕ → List ℤ → Bool
+unfoldable pub knotCountOk : ℕ → List ℕ → List ℤ → Bool  -- row 3: points + m + 1 knots
 knotCountOk m ts xs = eqb (length ts) (length xs + m + 1)
 
--- no knot is below `low`, above the largest, or below the one before it
-unfoldable pub risesFrom : ℕ → List ℕ → Bool
+unfoldable pub risesFrom : ℕ → List ℕ → Bool  -- no knot is below `low`, above the largest, or below the one before it
 risesFrom low [] = true
 risesFrom low (t ∷ ts) = leb low t && leb t knotMost && risesFrom t ts
 
--- row 4: knots 0 to 16,383, never falling
-unfoldable pub knotOrderOk : List ℕ → Bool
+unfoldable pub knotOrderOk : List ℕ → Bool  -- row 4: knots 0 to 16,383, never falling
 knotOrderOk ts = risesFrom 0 ts
 
--- the first knot and the last one
-abbrev pub firstKnot : List ℕ → ℕ
+abbrev pub firstKnot : List ℕ → ℕ  -- the first knot and the last one
 firstKnot ts = getD ts 0 0
 
 abbrev pub lastKnot : List ℕ → ℕ
 lastKnot ts = getD ts (length ts - 1) 0
 
--- every entry is v
-unfoldable pub allAre : ℕ → List ℕ → Bool
+unfoldable pub allAre : ℕ → List ℕ → Bool  -- every entry is v
 allAre v [] = true
 allAre v (t ∷ ts) = eqb t v && allAre v ts
 
--- row 5: the first m+1 knots are equal, the last m+1 are equal, and the two ends are not
-unfoldable pub endsOk : ℕ → List ℕ → Bool
+unfoldable pub endsOk : ℕ → List ℕ → Bool  -- row 5: the first m+1 knots are equal, the last m+1 are equal, and the two ends are not
 endsOk m ts =
     allAre (firstKnot ts) (take (m + 1) ts)
     && allAre (lastKnot ts) (drop (length ts - (m + 1)) ts)
     && not (eqb (firstKnot ts) (lastKnot ts))
 
--- how often v stands in a list
-unfoldable pub occurrences : ℕ → List ℕ → ℕ
+unfoldable pub occurrences : ℕ → List ℕ → ℕ  -- how often v stands in a list
 occurrences v [] = 0
 occurrences v (t ∷ ts) = cond (eqb t v) (suc (occurrences v ts)) (occurrences v ts)
 
--- how often v may stand: an end value m+1 times, any other m times
-unfoldable pub repeatsMost : ℕ → List ℕ → ℕ → ℕ
+unfoldable pub repeatsMost : ℕ → List ℕ → ℕ → ℕ  -- how often v may stand: an end value m+1 times, any other m times
 repeatsMost m ts v = cond (eqb v (firstKnot ts) || eqb v (lastKnot ts)) (m + 1) m
 
 -- each value of the list `vs` stands in the knots `ts` no more often than it may
@@ -63,24 +53,21 @@ unfoldable pub repeatsWithin : ℕ → List ℕ → List ℕ → Bool
 repeatsWithin m ts [] = true
 repeatsWithin m ts (v ∷ vs) = leb (occurrences v ts) (repeatsMost m ts v) && repeatsWithin m ts vs
 
--- row 6: no value stands too often
-unfoldable pub repeatsOk : ℕ → List ℕ → Bool
+unfoldable pub repeatsOk : ℕ → List ℕ → Bool  -- row 6: no value stands too often
 repeatsOk m ts = repeatsWithin m ts ts
 
--- -262,144 ≤ z ≤ 262,144
-unfoldable pub onGrid : ℤ → Bool
+unfoldable pub onGrid : ℤ → Bool  -- -262,144 ≤ z ≤ 262,144
 onGrid z = leZ (negℤ (pos coordinateMost)) z && leZ z (pos coordinateMost)
 
--- every entry is on the grid
-unfoldable pub allOnGrid : List ℤ → Bool
+unfoldable pub allOnGrid : List ℤ → Bool  -- every entry is on the grid
 allOnGrid [] = true
 allOnGrid (z ∷ zs) = onGrid z && allOnGrid zs
 
--- row 7: both lists of coordinates are on the grid
-unfoldable pub rangeOk : List ℤ → List ℤ → Bool
+unfoldable pub rangeOk : List ℤ → List ℤ → Bool  -- row 7: both lists of coordinates are on the grid
 rangeOk xs ys = allOnGrid xs && allOnGrid ys
 
--- row 14: neither low side above its high side, all four sides on the grid
-unfoldable pub rectangleOk : ℤ → ℤ → ℤ → ℤ → Bool
-rectangleOk lowX highX lowY highY =
-    leZ lowX highX && leZ lowY highY && onGrid lowX && onGrid highX && onGrid lowY && onGrid highY
+unfoldable pub axisOk : ℤ → ℤ → Bool  -- on one axis the low side is not above the high side, and both are on the grid
+axisOk low high = leZ low high && onGrid low && onGrid high
+
+unfoldable pub rectangleOk : ℤ → ℤ → ℤ → ℤ → Bool  -- row 14: a rectangle's sides on both axes
+rectangleOk lowX highX lowY highY = axisOk lowX highX && axisOk lowY highY

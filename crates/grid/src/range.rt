@@ -1,6 +1,6 @@
 // Rows 7 and 14: coordinates and sides on the grid.
 ghost use mathlib.Core.Path.{_≡_};
-ghost use Rattle.grid.specs.Rows.{onGrid, allOnGrid, rangeOk, rectangleOk};
+ghost use Rattle.grid.specs.Rows.{onGrid, allOnGrid, rangeOk, axisOk, rectangleOk};
 
 // z is on the grid.
 pub fn on_grid(z: i32) -> bool
@@ -22,26 +22,27 @@ pub fn on_grid_wide(z: i64) -> bool
     false
 }
 
-// Neither low side lies above its high side, and all four are on the grid.
+// On one axis the low side does not lie above the high side, and both are on the grid.
+fn axis_ok(low: i32, high: i32) -> bool
+    ensures answer { λ r. ⌜ r ≡ axisOk low high ⌝ }
+{
+    if !(low <= high) {
+        return false;
+    }
+    if !on_grid(low) {
+        return false;
+    }
+    on_grid(high)
+}
+
+// A rectangle's sides, x first.
 pub fn sides_ok(low_x: i32, high_x: i32, low_y: i32, high_y: i32) -> bool
     ensures answer { λ r. ⌜ r ≡ rectangleOk «low_x» «high_x» «low_y» «high_y» ⌝ }
 {
-    if !(low_x <= high_x) {
+    if !axis_ok(low_x, high_x) {
         return false;
     }
-    if !(low_y <= high_y) {
-        return false;
-    }
-    if !on_grid(low_x) {
-        return false;
-    }
-    if !on_grid(high_x) {
-        return false;
-    }
-    if !on_grid(low_y) {
-        return false;
-    }
-    on_grid(high_y)
+    axis_ok(low_y, high_y)
 }
 
 // Every entry of both lists is on the grid.

@@ -1,3 +1,3 @@
 -- Laws of the insertion call.
-pub mod OccurrenceLaws
 pub mod AnswerLaws
+mod Controls

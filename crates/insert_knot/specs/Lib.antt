@@ -1,3 +1,2 @@
 -- The contract of inserting a knot: its answer and its lent lists.
 pub mod Answer
-pub mod Lists

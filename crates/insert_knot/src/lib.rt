@@ -1,15 +1,10 @@
 // Inserting a knot into a curve ("Inserting and removing a knot"): the call, for any input.
 mod inserting;
 mod judging;
-mod value;
 mod writing;
 
-ghost use mathlib.Core.Path.{_≡_};
-ghost use Prim.Native.Nat.{_+_};
-ghost use lib.ListN.{length};
-ghost use Rattle.insertion.specs.Judged.{insertionNumber};
-ghost use Rattle.insert_knot.specs.Answer.{insertAnswer};
-ghost use Rattle.insert_knot.specs.Lists.{InsertedLists};
+ghost use Rattle.curve.specs.Lists.{lists};
+ghost use Rattle.insert_knot.specs.Answer.{InsertOutcome};
 
 // The number of points after the insertion, or why it is refused.
 pub enum InsertAnswer {
@@ -28,8 +23,9 @@ pub fn insert_knot(
     out_xs: &mut [i32],
     out_ys: &mut [i32],
 ) -> InsertAnswer
-    ensures answer { λ r. ⌜ r ≡ insertAnswer (insertionNumber degree (now (knots .entry)) (now (xs .entry)) (now (ys .entry)) v (length (now («out_knots» .entry))) (length (now («out_xs» .entry))) (length (now («out_ys» .entry)))) (length (now (xs .entry)) + 1) ⌝ }
-    ensures result { λ _. ⌜ InsertedLists (insertionNumber degree (now (knots .entry)) (now (xs .entry)) (now (ys .entry)) v (length (now («out_knots» .entry))) (length (now («out_xs» .entry))) (length (now («out_ys» .entry)))) degree (now (knots .entry)) (now (xs .entry)) (now (ys .entry)) v (now («out_knots» .entry)) (now («out_xs» .entry)) (now («out_ys» .entry)) (now («out_knots» .exit)) (now («out_xs» .exit)) (now («out_ys» .exit)) ⌝ }
+    ensures answer { λ r. ⌜ InsertOutcome degree (lists (now (knots .entry)) (now (xs .entry)) (now (ys .entry))) v
+        (lists (now («out_knots» .entry)) (now («out_xs» .entry)) (now («out_ys» .entry))) r
+        (lists (now («out_knots» .exit)) (now («out_xs» .exit)) (now («out_ys» .exit))) ⌝ }
 {
     let number = grid::check(degree, knots, xs, ys);
     if number != refusal::ACCEPTED {

@@ -2,8 +2,9 @@
 ghost use mathlib.Core.Path.{_≡_};
 ghost use Prim.Native.Nat.{_+_, _≤_};
 ghost use lib.ListN.{length};
-ghost use Rattle.lent.specs.Lent.{over};
-ghost use Rattle.insertion.specs.Insertion.{knotsUpTo, insertedKnots, insertedPoints};
+ghost use Rattle.curve.specs.HandingOver.{handedOver};
+ghost use Rattle.curve.specs.Lists.{lists};
+ghost use Rattle.insertion.specs.Insertion.{knotsUpTo, inserted};
 ghost use Rattle.insertion.specs.Standing.{Insertable};
 
 // The new knots, x and y, where v stands behind the first `at` knots.
@@ -24,9 +25,9 @@ pub(crate) fn write(
     requires { ⌜ length (now knots) + 1 ≤ length (now «out_knots») ⌝ }
     requires { ⌜ length (now xs) + 1 ≤ length (now «out_xs») ⌝ }
     requires { ⌜ length (now ys) + 1 ≤ length (now «out_ys») ⌝ }
-    ensures knots { λ _. ⌜ now («out_knots» .exit) ≡ over (insertedKnots (now (knots .entry)) v) (now («out_knots» .entry)) ⌝ }
-    ensures xs { λ _. ⌜ now («out_xs» .exit) ≡ over (insertedPoints m (now (knots .entry)) (now (xs .entry)) v) (now («out_xs» .entry)) ⌝ }
-    ensures ys { λ _. ⌜ now («out_ys» .exit) ≡ over (insertedPoints m (now (knots .entry)) (now (ys .entry)) v) (now («out_ys» .entry)) ⌝ }
+    ensures result { λ _. ⌜ lists (now («out_knots» .exit)) (now («out_xs» .exit)) (now («out_ys» .exit))
+        ≡ handedOver 0 (inserted m (lists (now (knots .entry)) (now (xs .entry)) (now (ys .entry))) v)
+        (lists (now («out_knots» .entry)) (now («out_xs» .entry)) (now («out_ys» .entry))) ⌝ }
 {
     let i = at - 1;
     insertion::insert_value(knots, v, at, out_knots);

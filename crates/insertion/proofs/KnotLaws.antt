@@ -9,7 +9,7 @@ use lib.ListN.{length, getD, take, drop, set}
 use Rattle.lent.specs.Lent.{over}
 use Rattle.lent.proofs.ListLaws.{take-rest}
 use Rattle.insertion.specs.Insertion.{knotsUpTo, insertedKnots}
-use Rattle.insertion.proofs.WriteLaws.{Stored, stored-more}
+use Rattle.lent.proofs.StoreLaws.{Stored, stored-more}
 use Rattle.insertion.proofs.PartLaws.{same-front, same-rest, front-copied}
 use Rattle.insertion.proofs.SpanLaws.{knotsUpTo-length}
 
@@ -76,5 +76,5 @@ module _ (ts : List ℕ) (v at : ℕ) (place : at ≡ knotsUpTo v ts) where
       let n = insertedKnots-length ts v in
       let most = knotsUpTo-length v ts in
       let front = same-front 0 (insertedKnots ts v) ts at (omega arith) (omega arith) (λ k inside. insertedKnots-before ts v k (omega arith)) in
-      stored-more v 0 (front-copied (insertedKnots ts v) before (take at ts) list at (omega arith) (omega arith) front copied) (omega arith)
+      stored-more (front-copied (insertedKnots ts v) before (take at ts) list at (omega arith) (omega arith) front copied) v 0 (omega arith)
       (rw place (insertedKnots-here ts v))

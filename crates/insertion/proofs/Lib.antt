@@ -1,9 +1,10 @@
 -- Laws of inserting a knot.
 pub mod OrderLaws
 pub mod MeanLaws
-pub mod WriteLaws
+pub mod EntryLaws
 pub mod PartLaws
 pub mod SpanLaws
+pub mod OccurrenceLaws
 pub mod KnotLaws
 pub mod QuotientLaws
 pub mod WholeLaws
@@ -12,3 +13,5 @@ pub mod CheckedLaws
 pub mod JudgedLaws
 pub mod PassLaws
 pub mod ResultLaws
+pub mod SentenceLaws
+mod Controls

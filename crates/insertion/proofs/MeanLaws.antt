@@ -14,16 +14,6 @@ use Rattle.signed.proofs.SizeLaws.{natAbs-mul, natAbs-add, natAbs-quot}
 use Rattle.signed.proofs.FitLaws.{fits64-of-size, product-size}
 use Rattle.signed.proofs.DivisionLaws.{quot-of-product}
 
--- the difference of two naturals, the first no smaller
-pub pos-sub : (a b : ℕ) → b ≤ a → pos a -ℤ pos b ≡ pos (a - b)
-pos-sub a zero h = ap pos (omega arith)
-pos-sub a (suc b) h = rw (le-ltb a (suc b) h) refl
-
--- equal multiples by a divisor above zero have equal factors
-pub product-cancel : (p q : ℤ) (d : ℕ) → 0 < d → p *ℤ pos d ≡ q *ℤ pos d → p ≡ q
-product-cancel p q d h e =
-    sym (quot-of-product p d h) ∙ ap (λ (z : ℤ). quotZ z (pos d)) e ∙ quot-of-product q d h
-
 -- a summand moves to the other side
 pub sum-moves : (a b c : ℤ) → a +ℤ b ≡ c → a ≡ c -ℤ b
 sum-moves a b c e = sym (+ℤ-negℤ-cancel a b) ∙ ap (λ (z : ℤ). z -ℤ b) e

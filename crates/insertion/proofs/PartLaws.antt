@@ -8,7 +8,7 @@ use lib.Seq.{ext-getD, getD-take, getD-drop, length-take-le, take-all, take-at, 
 use Rattle.lent.specs.Lent.{over}
 use Rattle.lent.proofs.ListLaws.{take-rest}
 use Rattle.lent.proofs.OverLaws.{over-append}
-use Rattle.insertion.proofs.WriteLaws.{Stored, stored-length}
+use Rattle.lent.proofs.StoreLaws.{Stored, stored-length}
 
 module _ {A : Type 0} (d : A) (result from : List A) where
   -- the same entries in front

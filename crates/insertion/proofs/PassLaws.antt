@@ -12,7 +12,7 @@ use lib.Seq.{take-append-le, take-take, drop-append-add, drop-drop, length-take-
 use borrow.Author.Tests.{leb-true, leb-false, le-leb, lt-leb, eqb-true}
 use Rattle.grid.specs.Limits.{knotMost}
 use Rattle.grid.specs.Rows.{risesFrom, firstKnot, lastKnot, allAre, endsOk, occurrences, repeatsMost, repeatsWithin, repeatsOk}
-use Rattle.grid.proofs.OrderLaws.{both}
+use Rattle.refusal.proofs.JudgingLaws.{both}
 use Rattle.grid.proofs.RepeatLaws.{rises-cons, rises-weaken}
 use Rattle.insertion.specs.Insertion.{knotsUpTo, insertedKnots}
 use Rattle.insertion.proofs.OrderLaws.{either}

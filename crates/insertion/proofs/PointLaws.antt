@@ -11,7 +11,8 @@ use Rattle.lent.specs.Lent.{over}
 use Rattle.lent.proofs.ListLaws.{take-rest}
 use Rattle.insertion.specs.Standing.{Insertable}
 use Rattle.insertion.specs.Insertion.{insertionSpan, insertedPoint, insertedPoints, pointAt, weightedSum, weight}
-use Rattle.insertion.proofs.WriteLaws.{Stored, entries-length, entries-at}
+use Rattle.lent.proofs.StoreLaws.{Stored}
+use Rattle.insertion.proofs.EntryLaws.{entries-length, entries-at}
 use Rattle.insertion.proofs.PartLaws.{same-front, same-rest, front-copied}
 use Rattle.insertion.proofs.SpanLaws.{span-least, span-most}
 

@@ -8,7 +8,8 @@ use lib.ListN.{getD}
 use lib.Signed.{quotZ}
 use Rattle.grid.specs.Limits.{coordinateMost}
 use Rattle.insertion.specs.Insertion.{weightedSum, weight, pointAt}
-use Rattle.insertion.proofs.MeanLaws.{pos-sub, mean-within}
+use Rattle.signed.proofs.DifferenceLaws.{pos-sub}
+use Rattle.insertion.proofs.MeanLaws.{mean-within}
 
 module _ (m : ℕ) (ts : List ℕ) (ps : List ℤ) (v j : ℕ) (low : getD ts j 0 ≤ v) (high : v < getD ts (j + m) 0) where
   -- above the line

@@ -7,6 +7,7 @@ use native.Mathlib.Omega.{arith}
 use lib.IntN.{ℤ, pos, natAbs}
 use lib.ListN.{length, getD, List·getD-eq-default}
 use borrow.Author.Tests.{le-leb, eq-eqb, ltb-true}
+use Rattle.curve.specs.Lists.{Lists, lists}
 use Rattle.grid.specs.Limits.{pointsMost, knotMost, coordinateMost}
 use Rattle.grid.specs.Rows.{risesFrom, degreeOk, pointCountOk, knotCountOk, knotOrderOk, allOnGrid, rangeOk}
 use Rattle.grid.specs.Check.{Passes}
@@ -48,9 +49,9 @@ inserted-range m ts ps v s j =
         rw (point-quotient m ts ps v (insertionSpan ts v) j a b) (quotient-within m ts ps v j (w .low) (w .high) (s .range))))
         (λ left. rw (point-left m ts ps v (insertionSpan ts v) j left) (s .range j))
 
-module _ (m : ℕ) (ts : List ℕ) (xs ys : List ℤ) (v roomKnots roomXs roomYs : ℕ) (accepts : insertionNumber m ts xs ys v roomKnots roomXs roomYs ≡ 0) where
-  tests : Accepted m ts xs ys v roomKnots roomXs roomYs
-  tests = accepted-of-number m ts xs ys v roomKnots roomXs roomYs accepts
+module _ (m : ℕ) (ts : List ℕ) (xs ys : List ℤ) (v : ℕ) (lent : Lists) (accepts : insertionNumber m (lists ts xs ys) v lent ≡ 0) where
+  tests : Accepted m (lists ts xs ys) v lent
+  tests = accepted-of-number m (lists ts xs ys) v lent accepts
 
   pub accepted-xs : Insertable m ts xs v
   accepted-xs =

@@ -1,12 +1,14 @@
 -- Walking the quotients from Q_{i-m+1} to Q_i: all are whole exactly where those passed and the rest are.
-use mathlib.Core.Bool.{true, false, _&&_}
+use mathlib.Core.Bool.{true, false, _&&_, true≢false}
+use mathlib.Core.Logic.{⊎-elim}
 use mathlib.Core.Path.{_≡_, refl, sym, ap, _∙_}
 use mathlib.Core.List.{List}
 use Prim.Native.Nat.{ℕ, zero, suc, _+_, _-_, _≤_, _<_}
 use native.Mathlib.Omega.{arith}
 use lib.IntN.{ℤ}
 use Rattle.signed.specs.Division.{divides}
-use Rattle.grid.proofs.OrderLaws.{both}
+use Rattle.refusal.proofs.JudgingLaws.{both}
+use Rattle.checked.proofs.TestLaws.{one-fails}
 use Rattle.insertion.proofs.OrderLaws.{either}
 use Rattle.insertion.specs.Insertion.{insertionSpan, wholePoints, wholeFrom, weight, weightedSum}
 
@@ -60,6 +62,17 @@ from-of-each m ts ps v zero first each = refl
 from-of-each m ts ps v (suc count) first each =
     rw (each first (omega arith) (omega arith), from-of-each m ts ps v count (first + 1) (λ j a b. each j (omega arith) (omega arith)))
 
+from-not : (m : ℕ) (ts : List ℕ) (ps : List ℤ) (v count first : ℕ) → wholeFrom m ts ps v count first ≡ false
+    → (j : ℕ) × (first ≤ j) × (j < first + count) × (divides (weight m ts j) (weightedSum m ts ps v j) ≡ false)
+unfolding wholeFrom
+from-not m ts ps v zero first h = absurd (true≢false h)
+from-not m ts ps v (suc count) first h =
+    let rest = from-not m ts ps v count (first + 1) in
+    ⊎-elim
+    (λ e. (first, omega arith, omega arith, e))
+    (λ e. let r = rest e in (r .0, omega (arith, r .1), omega (arith, r .2), r .3))
+    (one-fails (divides (weight m ts first) (weightedSum m ts ps v first)) (wholeFrom m ts ps v count (first + 1)) h)
+
 module _ (m : ℕ) (ts : List ℕ) (ps : List ℤ) (v : ℕ) (least : m ≤ insertionSpan ts v) where
   pub whole-each : wholePoints m ts ps v ≡ true → (j : ℕ) → insertionSpan ts v < j + m → j ≤ insertionSpan ts v
       → divides (weight m ts j) (weightedSum m ts ps v j) ≡ true
@@ -70,3 +83,11 @@ module _ (m : ℕ) (ts : List ℕ) (ps : List ℤ) (v : ℕ) (least : m ≤ inse
       → wholePoints m ts ps v ≡ true
   unfolding wholePoints
   whole-of-each each = from-of-each m ts ps v m (insertionSpan ts v + 1 - m) (λ j a b. each j (omega arith) (omega arith))
+
+  -- some quotient is not
+  pub whole-not : wholePoints m ts ps v ≡ false
+      → (j : ℕ) × (insertionSpan ts v < j + m) × (j ≤ insertionSpan ts v) × (divides (weight m ts j) (weightedSum m ts ps v j) ≡ false)
+  unfolding wholePoints
+  whole-not h =
+      let r = from-not m ts ps v m (insertionSpan ts v + 1 - m) h in
+      (r .0, omega (arith, r .1), omega (arith, r .2), r .3)

@@ -5,6 +5,7 @@ use mathlib.Core.List.{List}
 use mathlib.Core.Path.{_≡_}
 use lib.IntN.{ℤ, pos, natAbs}
 use lib.ListN.{length, getD}
+use Rattle.curve.specs.Lists.{NeverFall}
 use Rattle.grid.specs.Limits.{coordinateMost}
 
 -- the quotient Q_j can be formed: t_j ≤ v < t_{j+m}, and P_{j-1}, P_j are there
@@ -17,7 +18,7 @@ pub record Weighed (m : ℕ) (ts : List ℕ) (count v j : ℕ) : Type 0 where
 
 -- the knots never fall, v lies in the domain and below its right end, and the coordinates are on the grid
 pub record Insertable (m : ℕ) (ts : List ℕ) (ps : List ℤ) (v : ℕ) : Type 0 where
-  pub rises : (a b : ℕ) → a ≤ b → b < length ts → getD ts a 0 ≤ getD ts b 0
+  pub rises : NeverFall ts
   pub degree : 1 ≤ m
   pub count : length ts ≡ length ps + m + 1
   pub low : getD ts m 0 ≤ v

@@ -1,9 +1,12 @@
 // The parts of inserting a knot ("Inserting and removing a knot"), on slices, for a curve that has passed the check.
+ghost use mathlib.Core.Bool.{true};
 ghost use mathlib.Core.Path.{_≡_};
 ghost use Prim.Native.Nat.{_+_, _≤_, _<_, _^_};
+ghost use lib.Dec.{leb};
 ghost use lib.IntN.{pos, natAbs, _+ℤ_, _*ℤ_};
 ghost use lib.ListN.{length, getD};
 ghost use lib.Signed.{quotZ};
+ghost use Rattle.grid.specs.Rows.{knotOrderOk, occurrences};
 ghost use Rattle.lent.specs.Lent.{over};
 ghost use Rattle.signed.specs.Division.{divides};
 ghost use Rattle.insertion.specs.Insertion.{knotsUpTo, insertionSpan, insertedKnots, insertedPoints, weightedSum, weight, wholePoints};
@@ -13,7 +16,7 @@ ghost use Rattle.insertion.specs.Standing.{Weighed, Insertable};
 pub fn weighted_sum(left: u16, p: i32, right: u16, q: i32) -> i64
     ensures answer { λ r. ⌜ r ≡ pos left *ℤ p +ℤ pos right *ℤ q ⌝ }
 {
-    (left as i64) * (p as i64) + (right as i64) * (q as i64)
+    signed::product(left, p) + signed::product(right, q)
 }
 
 // Whether d goes into sum with no remainder.
@@ -45,6 +48,17 @@ pub fn knots_up_to(knots: &[u16], v: u16) -> usize
         i += 1;
     }
     i
+}
+
+// Whether v stands so many times or more, where `at` knots are up to v. The knots never fall, so that one knot tells.
+pub fn stands(times: usize, knots: &[u16], v: u16, at: usize) -> bool
+    requires { ⌜ knotOrderOk (now knots) ≡ true ⌝ }
+    requires { ⌜ at ≡ knotsUpTo v (now knots) ⌝ }
+    requires { ⌜ 1 ≤ times ⌝ }
+    requires { ⌜ times ≤ at ⌝ }
+    ensures answer { λ r. ⌜ r ≡ leb times (occurrences v (now (knots .entry))) ⌝ }
+{
+    knots[at - times] == v
 }
 
 // What stands above the line of Q_j.

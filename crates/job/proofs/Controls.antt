@@ -1,18 +1,37 @@
--- Closed cases: the worked job, curve A with three clamps (heading "Worked by hand"), and the same with its end cut off.
+-- Closed cases: a job byte by byte; the worked job, curve A with three clamps (heading "Worked by hand"), and the same with its end cut off.
 use mathlib.Core.Path.{_≡_, refl}
 use mathlib.Core.List.{List, [], _∷_}
 use lib.IntN.{pos}
 use lib.ListN.{length, take}
 use Prim.Native.Nat.{ℕ}
+use Rattle.curve.specs.Lists.{Lists, lists}
+use Rattle.curve.specs.HandingOver.{enough}
+use Rattle.grid.specs.Rows.{degreeOk, pointCountOk, knotCountOk, risesFrom, knotOrderOk, allAre, endsOk, occurrences, repeatsMost, repeatsWithin, repeatsOk, onGrid, allOnGrid, rangeOk, axisOk, rectangleOk}
+use Rattle.grid.specs.Check.{checkedThen}
 use Rattle.format.specs.Format.{form1, recordBytes}
-use Rattle.format.proofs.Controls.{knotsA, xsA, ysA}
+use Rattle.format.proofs.Controls.{curveA, line}
 use Rattle.layout.specs.Judging.{lengthOk, fieldAt, recordLayout}
 use Rattle.layout.specs.declared.Fault.the-variants.{Ended}
-use Rattle.clamps.specs.Clamp.{Clamp}
+use Rattle.clamps.specs.Clamp.{Clamp, clampsOk}
 use Rattle.clamps.specs.Tail.{clampsFrom}
+use Rattle.clamps.proofs.Controls.{two}
 use Rattle.job.specs.JobFormat.{jobBytes}
 use Rattle.job.specs.JobJudging.{jobLayout}
+use Rattle.job.specs.JobReading.{jobNumber, jobAnswer}
+use Rattle.job.specs.declared.JobAnswer.the-variants.{Job, Refused}
 use Rattle.job.specs.declared.JobLayout.the-variants.{Sound, Broken}
+
+-- a line of three points, and two clamps behind it: x from -2 to 300 and y from -262,144 to 5; x from 7 to 8 and y from 9 to 10
+job-of-line : jobBytes form1 1 line two
+    ≡ 1 ∷ 1 ∷ 0 ∷ 1
+    ∷ 2 ∷ 10 ∷ 0 ∷ 0 ∷ 0 ∷ 0 ∷ 0 ∷ 2 ∷ 1 ∷ 255 ∷ 63 ∷ 255 ∷ 63
+    ∷ 3 ∷ 12 ∷ 0 ∷ 254 ∷ 255 ∷ 255 ∷ 255 ∷ 44 ∷ 1 ∷ 0 ∷ 0 ∷ 0 ∷ 0 ∷ 4 ∷ 0
+    ∷ 4 ∷ 12 ∷ 0 ∷ 5 ∷ 0 ∷ 0 ∷ 0 ∷ 255 ∷ 255 ∷ 255 ∷ 255 ∷ 0 ∷ 0 ∷ 252 ∷ 255
+    ∷ 5 ∷ 16 ∷ 0 ∷ 254 ∷ 255 ∷ 255 ∷ 255 ∷ 44 ∷ 1 ∷ 0 ∷ 0 ∷ 0 ∷ 0 ∷ 252 ∷ 255 ∷ 5 ∷ 0 ∷ 0 ∷ 0
+    ∷ 5 ∷ 16 ∷ 0 ∷ 7 ∷ 0 ∷ 0 ∷ 0 ∷ 8 ∷ 0 ∷ 0 ∷ 0 ∷ 9 ∷ 0 ∷ 0 ∷ 0 ∷ 10 ∷ 0 ∷ 0 ∷ 0
+    ∷ []
+unfolding jobBytes recordBytes line two
+job-of-line = refl
 
 clampsA : List Clamp
 clampsA =
@@ -22,22 +41,38 @@ clampsA =
     ∷ []
 
 jobA : List ℕ
-jobA = jobBytes form1 3 knotsA xsA ysA clampsA
+jobA = jobBytes form1 3 curveA clampsA
 
 -- 61 bytes of record, and 19 a clamp
 long-A : length jobA ≡ 118
-unfolding jobA jobBytes recordBytes knotsA xsA ysA clampsA
+unfolding jobA jobBytes recordBytes curveA clampsA
 long-A = refl
 
 sound-A : jobLayout jobA ≡ Sound 16 16 16 3
-unfolding jobLayout recordLayout fieldAt lengthOk clampsFrom jobA jobBytes recordBytes knotsA xsA ysA clampsA
+unfolding jobLayout recordLayout fieldAt lengthOk clampsFrom jobA jobBytes recordBytes curveA clampsA
 sound-A = refl
 
 -- the record alone is a job without clamps
 alone-A : jobLayout (take 61 jobA) ≡ Sound 16 16 16 0
-unfolding jobLayout recordLayout fieldAt lengthOk clampsFrom jobA jobBytes recordBytes knotsA xsA ysA clampsA
+unfolding jobLayout recordLayout fieldAt lengthOk clampsFrom jobA jobBytes recordBytes curveA clampsA
 alone-A = refl
 
 cut-A : jobLayout (take 117 jobA) ≡ Broken (Ended 117)
-unfolding jobLayout recordLayout fieldAt lengthOk clampsFrom jobA jobBytes recordBytes knotsA xsA ysA clampsA
+unfolding jobLayout recordLayout fieldAt lengthOk clampsFrom jobA jobBytes recordBytes curveA clampsA
 cut-A = refl
+
+-- a job's number: 7 for its curve comes before 14 for a clamp, and 14 before 15; and the answer by cases
+abbrev crossed : List Clamp
+crossed = record { lowX = pos 5; highX = pos 2; lowY = pos 0; highY = pos 4 } ∷ []
+
+abbrev segment : ℕ → Lists
+segment x = lists (0 ∷ 0 ∷ 4 ∷ 4 ∷ []) (pos 0 ∷ pos x ∷ []) (pos 0 ∷ pos 0 ∷ [])
+
+numbers : jobNumber 1 (segment 262145) crossed (segment 0) 0 ∷ jobNumber 1 (segment 8) crossed (segment 0) 0
+    ∷ jobNumber 1 (segment 8) two (segment 0) 7 ∷ jobNumber 1 (segment 8) two (lists [] [] []) 8 ∷ jobNumber 1 (segment 8) two (segment 0) 8 ∷ []
+    ≡ 7 ∷ 14 ∷ 15 ∷ 15 ∷ 0 ∷ []
+unfolding jobNumber enough clampsOk rectangleOk axisOk two checkedThen degreeOk pointCountOk knotCountOk risesFrom knotOrderOk allAre endsOk occurrences repeatsMost repeatsWithin repeatsOk onGrid allOnGrid rangeOk
+numbers = refl
+
+read-or-refused : jobAnswer 0 3 4 2 ∷ jobAnswer 14 3 4 2 ∷ [] ≡ Job 3 4 2 ∷ Refused 14 ∷ []
+read-or-refused = refl

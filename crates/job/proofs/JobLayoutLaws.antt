@@ -4,21 +4,23 @@ use mathlib.Core.List.{List, _++_}
 use Prim.Native.Nat.{ℕ, _+_, _≤_}
 use native.Mathlib.Nat.{zero-add}
 use native.Mathlib.Omega.{arith}
-use lib.IntN.{ℤ}
 use lib.ListN.{length, drop, length-append}
 use lib.Seq.{drop-at}
+use Rattle.curve.specs.Lists.{Lists}
+use Rattle.grid.specs.Limits.{clampsMost}
 use Rattle.fields.specs.Bytes.{knotBytes, coordinateBytes, Octets}
 use Rattle.fields.proofs.PlaceLaws.{length-entriesAt}
 use Rattle.format.specs.Format.{form1, recordBytes}
+use Rattle.format.specs.RecordPlaces.{recordEnd}
 use Rattle.format.proofs.SizeLaws.{length-record}
-use Rattle.layout.specs.Judging.{recordLayout, recordEnd}
-use Rattle.layout.specs.Contents.{degreeIn, knotsIn, xsIn, ysIn}
+use Rattle.layout.specs.Judging.{recordLayout}
+use Rattle.layout.specs.StoredCurve.{degreeIn, curveIn}
 use Rattle.layout.specs.declared.Fault.{Fault}
 use Rattle.layout.specs.declared.Layout.{Layout}
 use Rattle.layout.specs.declared.Layout.the-variants.{Sound as Curve, Broken as NoCurve}
 use Rattle.layout.proofs.SplitLaws.{layout-inside}
 use Rattle.layout.proofs.RecordLaws.{layout-storable, layout-record, record-layout}
-use Rattle.clamps.specs.Clamp.{Clamp, clampAt, clampsAt, clampFields}
+use Rattle.clamps.specs.Clamp.{clampFieldBytes, Clamp, clampAt, clampsAt, clampFields}
 use Rattle.clamps.specs.Tail.{clampsBehind}
 use Rattle.clamps.specs.declared.Tail.{Tail}
 use Rattle.clamps.specs.declared.Tail.the-variants.{Clamps, Broken as NoClamps}
@@ -58,58 +60,56 @@ module _ (bytes : List ℕ) (octets : Octets bytes) (k x y n : ℕ) (e : jobLayo
   joined : Joined k x y n bytes
   joined = job-joined k x y n bytes e
 
-  counted : (c : ℕ) × (n ≡ 0 + c) × (c ≤ 64) × Run bytes (recordEnd k x y) c
-  counted = clamps-known bytes octets 64 (recordEnd k x y) 0 n (layout-inside bytes k x y (joined .curve)) (joined .tail)
+  counted : (c : ℕ) × (n ≡ 0 + c) × (c ≤ clampsMost) × Run bytes (recordEnd k x y) c
+  counted = clamps-known bytes octets clampsMost (recordEnd k x y) 0 n (layout-inside bytes k x y (joined .curve)) (joined .tail)
 
-  pub job-few : n ≤ 64
+  pub job-few : n ≤ clampsMost
   job-few = omega (arith, counted .1, counted .2)
 
   pub job-run : Run bytes (recordEnd k x y) n
   job-run = let same : counted .0 ≡ n = omega (arith, counted .1) in rw same at (counted .3)
 
-  pub job-storable : StorableJob form1 (degreeIn bytes) (knotsIn bytes k) (xsIn bytes k x) (ysIn bytes k x y) (clampsAt bytes (recordEnd k x y) n)
+  pub job-storable : StorableJob form1 (degreeIn bytes) (curveIn bytes k x y) (clampsAt bytes (recordEnd k x y) n)
   job-storable =
-      let many : length (clampsAt bytes (recordEnd k x y) n) ≡ n = length-entriesAt (clampAt bytes) 19 (recordEnd k x y) n in
+      let many : length (clampsAt bytes (recordEnd k x y) n) ≡ n = length-entriesAt (clampAt bytes) clampFieldBytes (recordEnd k x y) n in
       record {
         curve = layout-storable bytes octets k x y (joined .curve);
         clamps = clamps-fit bytes octets (recordEnd k x y) n;
         few = omega (arith, many, job-few);
       }
 
-  pub job-same : bytes ≡ jobBytes form1 (degreeIn bytes) (knotsIn bytes k) (xsIn bytes k x) (ysIn bytes k x y) (clampsAt bytes (recordEnd k x y) n)
+  pub job-same : bytes ≡ jobBytes form1 (degreeIn bytes) (curveIn bytes k x y) (clampsAt bytes (recordEnd k x y) n)
   unfolding jobBytes
   job-same =
       layout-record bytes octets k x y (joined .curve)
-      ∙ ap (λ (l : List ℕ). recordBytes form1 (degreeIn bytes) (knotsIn bytes k) (xsIn bytes k x) (ysIn bytes k x y) ++ l) (job-run .same)
+      ∙ ap (λ (l : List ℕ). recordBytes form1 (degreeIn bytes) (curveIn bytes k x y) ++ l) (job-run .same)
 
   -- bytes that are judged sound are the job of the lists that stand in them
   abbrev pub job-of-sound : IsJob form1 bytes
   job-of-sound =
       record {
         m = degreeIn bytes;
-        ts = knotsIn bytes k;
-        xs = xsIn bytes k x;
-        ys = ysIn bytes k x y;
+        c = curveIn bytes k x y;
         cs = clampsAt bytes (recordEnd k x y) n;
         storable = job-storable;
         same = job-same;
       }
 
 -- some lists' bytes are judged sound
-pub job-sound : (m : ℕ) (ts : List ℕ) (xs ys : List ℤ) (cs : List Clamp) (bytes : List ℕ) → StorableJob form1 m ts xs ys cs
-    → bytes ≡ jobBytes form1 m ts xs ys cs
-    → jobLayout bytes ≡ Sound (length (knotBytes ts)) (length (coordinateBytes xs)) (length (coordinateBytes ys)) (length cs)
+pub job-sound : (m : ℕ) (c : Lists) (cs : List Clamp) (bytes : List ℕ) → StorableJob form1 m c cs
+    → bytes ≡ jobBytes form1 m c cs
+    → jobLayout bytes ≡ Sound (length (knotBytes (c .knots))) (length (coordinateBytes (c .xs))) (length (coordinateBytes (c .ys))) (length cs)
 unfolding jobLayout jobBytes
-job-sound m ts xs ys cs bytes s e =
-    let record₁ : List ℕ = recordBytes form1 m ts xs ys in
-    let end : ℕ = recordEnd (length (knotBytes ts)) (length (coordinateBytes xs)) (length (coordinateBytes ys)) in
-    let size : length record₁ ≡ end = length-record form1 m ts xs ys in
-    let rest : drop end bytes ≡ clampFields cs = ap (drop end) e ∙ drop-at record₁ (clampFields cs) end size in
-    let inside : end ≤ length bytes = omega (arith, ap length e, length-append record₁ (clampFields cs)) in
-    let tail : clampsBehind bytes end ≡ Clamps (length cs) = clamps-found bytes cs 64 end 0 inside rest (s .few) ∙ ap Clamps (zero-add (length cs)) in
-    rw (record-layout m ts xs ys (clampFields cs) bytes (s .curve) e, tail)
+job-sound m c cs bytes s e =
+    let recorded : List ℕ = recordBytes form1 m c in
+    let end : ℕ = recordEnd (length (knotBytes (c .knots))) (length (coordinateBytes (c .xs))) (length (coordinateBytes (c .ys))) in
+    let size : length recorded ≡ end = length-record form1 m c in
+    let rest : drop end bytes ≡ clampFields cs = ap (drop end) e ∙ drop-at recorded (clampFields cs) end size in
+    let inside : end ≤ length bytes = omega (arith, ap length e, length-append recorded (clampFields cs)) in
+    let tail : clampsBehind bytes end ≡ Clamps (length cs) = clamps-found bytes cs clampsMost end 0 inside rest (s .few) ∙ ap Clamps (zero-add (length cs)) in
+    rw (record-layout m c (clampFields cs) bytes (s .curve) e, tail)
 
 -- bytes that are judged unsound are nobody's
 pub unsound-no-job : (bytes : List ℕ) (fault : Fault) → jobLayout bytes ≡ Broken fault → IsJob form1 bytes → ⊥
 unsound-no-job bytes fault e w =
-    unsound _ _ _ _ fault (sym e ∙ job-sound (w .m) (w .ts) (w .xs) (w .ys) (w .cs) bytes (w .storable) (w .same))
+    unsound _ _ _ _ fault (sym e ∙ job-sound (w .m) (w .c) (w .cs) bytes (w .storable) (w .same))

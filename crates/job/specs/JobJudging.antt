@@ -1,7 +1,8 @@
 -- How a job's bytes are judged (heading "The record on disk"): the record's fields, then the clamps', up to the end.
 use mathlib.Core.List.{List}
 use Prim.Native.Nat.{ℕ}
-use Rattle.layout.specs.Judging.{recordLayout, recordEnd}
+use Rattle.format.specs.RecordPlaces.{recordEnd}
+use Rattle.layout.specs.Judging.{recordLayout}
 use Rattle.layout.specs.declared.Layout.{Layout}
 use Rattle.layout.specs.declared.Layout.the-variants.{Sound as Curve, Broken as NoCurve}
 use Rattle.clamps.specs.Tail.{clampsBehind}

@@ -1,47 +1,50 @@
--- What reading a job answers, by what the bytes are (headings "The record on disk" and "Numbers of refusal").
-use mathlib.Core.Bool.{Bool, cond, _&&_}
+-- What reading a job answers and leaves, by what the bytes are (headings "The record on disk" and "Numbers of refusal").
+use mathlib.Core.Bool.{Bool, _&&_}
 use mathlib.Core.List.{List}
 use mathlib.Core.Path.{_≡_}
 use Prim.Native.Nat.{ℕ}
-use lib.Dec.{leb, eqb}
+use lib.Dec.{leb}
 use lib.IntN.{ℤ}
 use lib.ListN.{length}
 use Rattle.lent.specs.Lent.{after}
-use Rattle.refusal.specs.Judging.{unless}
+use Rattle.refusal.specs.Judging.{unless, answered}
 use Rattle.refusal.specs.Numbers.{accepted, rectangleRefused, roomRefused, bytesRefused}
+use Rattle.curve.specs.HandingOver.{roomFor, handedOver}
+use Rattle.curve.specs.Lists.{Lists}
 use Rattle.grid.specs.Check.{checkedThen}
 use Rattle.format.specs.Format.{form1}
 use Rattle.clamps.specs.Clamp.{Clamp, allSides, clampsOk}
-use Rattle.record.specs.Reading.{roomOk}
 use Rattle.job.specs.JobFormat.{IsJob}
 use Rattle.job.specs.declared.JobAnswer.{JobAnswer}
 use Rattle.job.specs.declared.JobAnswer.the-variants.{Job, Refused}
 
--- each of four lent lists is as long as its result, the clamps' with four numbers a clamp
-abbrev pub jobRoomOk : List ℕ → List ℤ → List ℤ → List Clamp → List ℕ → List ℤ → List ℤ → List ℤ → Bool
-jobRoomOk ts xs ys cs knots across up around = roomOk ts xs ys knots across up && leb (length (allSides cs)) (length around)
+-- row 15: the list of sides has four places a clamp, and the curve's three lists have room
+abbrev pub jobRoomFor : Lists → List Clamp → Lists → ℕ → Bool
+jobRoomFor c cs lent places = leb (length (allSides cs)) places && roomFor c lent
 
--- 1 to 7 for the curve, then 14 for any clamp, then 15
-unfoldable pub jobNumber : ℕ → List ℕ → List ℤ → List ℤ → List Clamp → List ℕ → List ℤ → List ℤ → List ℤ → ℕ
-jobNumber m ts xs ys cs knots across up around =
-    checkedThen m ts xs ys
-    (unless (clampsOk cs) rectangleRefused (unless (jobRoomOk ts xs ys cs knots across up around) roomRefused accepted))
+-- a job's number: 1 to 7 for its curve, then 14 for any clamp, then 15
+unfoldable pub jobNumber : ℕ → Lists → List Clamp → Lists → ℕ → ℕ
+jobNumber m c cs lent places =
+    checkedThen m (c .knots) (c .xs) (c .ys)
+    (unless (clampsOk cs) rectangleRefused (unless (jobRoomFor c cs lent places) roomRefused accepted))
 
--- degree, number of points and number of clamps, or the number of the refusal
-abbrev pub jobAnswer : ℕ → ℕ → ℕ → ℕ → JobAnswer
-jobAnswer number m points clamps = cond (eqb number accepted) (Job m points clamps) (Refused number)
+abbrev pub jobAnswer : ℕ → ℕ → ℕ → ℕ → JobAnswer  -- degree, number of points and number of clamps, or the number of the refusal
+jobAnswer number m points clamps = answered (Job m points) Refused number clamps
 
--- a job's lists were read, or refused: the answer, and the four lent lists before and after
-pub record ListsRead (m : ℕ) (ts : List ℕ) (xs ys : List ℤ) (cs : List Clamp) (knots : List ℕ) (across up around : List ℤ) (r : JobAnswer) (knots₁ : List ℕ) (across₁ up₁ around₁ : List ℤ) : Type 0 where
-  pub answer : r ≡ jobAnswer (jobNumber m ts xs ys cs knots across up around) m (length xs) (length cs)
-  pub onKnots : knots₁ ≡ after (jobNumber m ts xs ys cs knots across up around) ts knots
-  pub onX : across₁ ≡ after (jobNumber m ts xs ys cs knots across up around) xs across
-  pub onY : up₁ ≡ after (jobNumber m ts xs ys cs knots across up around) ys up
-  pub onClamps : around₁ ≡ after (jobNumber m ts xs ys cs knots across up around) (allSides cs) around
+-- what bytes come to, with these lists lent and `places` places for sides: a number, a degree, a curve's lists and clamps
+pub data JobComesTo (bytes : List ℕ) (lent : Lists) (places : ℕ) : ℕ → ℕ → Lists → List Clamp → Type 0 where
+  -- they are the job of some lists and clamps
+  isJob : (w : IsJob form1 bytes) → JobComesTo bytes lent places (jobNumber (w .m) (w .c) (w .cs) lent places) (w .m) (w .c) (w .cs)
+  -- they are nobody's: 16
+  isNone : (IsJob form1 bytes → ⊥) → (m : ℕ) (c : Lists) (cs : List Clamp) → JobComesTo bytes lent places bytesRefused m c cs
 
--- reading bytes: where they are some lists' job, these lists are read; where they are nobody's, 16, and nothing lent has changed
-pub data JobRead (bytes knots : List ℕ) (across up around : List ℤ) (r : JobAnswer) (knots₁ : List ℕ) (across₁ up₁ around₁ : List ℤ) : Type 0 where
-  lists : (w : IsJob form1 bytes) → ListsRead (w .m) (w .ts) (w .xs) (w .ys) (w .cs) knots across up around r knots₁ across₁ up₁ around₁
-      → JobRead bytes knots across up around r knots₁ across₁ up₁ around₁
-  none : (IsJob form1 bytes → ⊥) → r ≡ Refused bytesRefused → knots₁ ≡ knots → across₁ ≡ across → up₁ ≡ up → around₁ ≡ around
-      → JobRead bytes knots across up around r knots₁ across₁ up₁ around₁
+-- the answer, the lent lists and the list of sides follow from these
+pub record JobRead (bytes : List ℕ) (before : Lists) (sidesBefore : List ℤ) (answer : JobAnswer) (now : Lists) (sidesNow : List ℤ) : Type 0 where
+  pub number : ℕ
+  pub m : ℕ
+  pub c : Lists
+  pub cs : List Clamp
+  pub comesTo : JobComesTo bytes before (length sidesBefore) number m c cs
+  pub answers : answer ≡ jobAnswer number m (length (c .xs)) (length cs)
+  pub hands : now ≡ handedOver number c before
+  pub clampsNow : sidesNow ≡ after number (allSides cs) sidesBefore

@@ -1,10 +1,11 @@
 // Reads a job: a curve's record, and the clamps behind it.
-mod getting;
+mod sound;
 
 use clamps::Tail;
 use layout::Fault;
 use layout::Layout;
 ghost use mathlib.Core.Path.{_≡_};
+ghost use Rattle.curve.specs.Lists.{lists};
 ghost use Rattle.job.specs.JobJudging.{jobLayout};
 ghost use Rattle.job.specs.JobReading.{JobRead};
 
@@ -30,13 +31,13 @@ pub enum JobAnswer {
 }
 
 // Judges the whole job.
-pub fn job_layout(bytes: &[u8]) -> JobLayout
+pub(crate) fn job_layout(bytes: &[u8]) -> JobLayout
     ensures answer { λ r. ⌜ r ≡ jobLayout (now (bytes .entry)) ⌝ }
 {
     match layout::record_layout(bytes) {
         Layout::Sound { knots, xs, ys } => match clamps::clamps_behind(
             bytes,
-            13 + knots + xs + ys,
+            format::BEFORE_Y + knots + xs + ys,
         ) {
             Tail::Clamps(count) => JobLayout::Sound {
                 knots,
@@ -58,8 +59,8 @@ pub fn read_job(
     out_ys: &mut [i32],
     clamps: &mut [i32],
 ) -> JobAnswer
-    ensures answer { λ r. ⌜ JobRead (now (bytes .entry)) (now («out_knots» .entry)) (now («out_xs» .entry)) (now («out_ys» .entry)) (now (clamps .entry)) r
-        (now («out_knots» .exit)) (now («out_xs» .exit)) (now («out_ys» .exit)) (now (clamps .exit)) ⌝ }
+    ensures answer { λ r. ⌜ JobRead (now (bytes .entry)) (lists (now («out_knots» .entry)) (now («out_xs» .entry)) (now («out_ys» .entry)))
+        (now (clamps .entry)) r (lists (now («out_knots» .exit)) (now («out_xs» .exit)) (now («out_ys» .exit))) (now (clamps .exit)) ⌝ }
 {
     match job_layout(bytes) {
         JobLayout::Sound {
@@ -68,7 +69,7 @@ pub fn read_job(
             ys,
             clamps: count,
         } => {
-            getting::read_sound(
+            sound::read_sound(
                 bytes,
                 knots,
                 xs,

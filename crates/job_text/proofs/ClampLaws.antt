@@ -1,5 +1,5 @@
 -- The clamps of a job in the list of their sides, and row 14 for each of them.
-use mathlib.Core.Bool.{Bool, true, false, _&&_, false≢true}
+use mathlib.Core.Bool.{true}
 use mathlib.Core.List.{List, [], _∷_}
 use mathlib.Core.Path.{_≡_, refl, _∙_, ap}
 use Prim.Native.Nat.{ℕ, zero, suc, _+_, _*_, _<_}
@@ -8,8 +8,12 @@ use lib.IntN.{ℤ, pos}
 use lib.ListN.{length, getD}
 use Rattle.boxes.specs.declared.Rectangle.{Rectangle}
 use Rattle.grid.specs.Rows.{rectangleOk}
-use Rattle.clamps.specs.Clamp.{Clamp, noClamp, allSides, clampsOk}
-use Rattle.report.specs.Told.{clampAt}
+use Rattle.clamps.specs.Clamp.{Clamp, noClamp, sides, allSides, clampsOk}
+use Rattle.refusal.proofs.JudgingLaws.{both}
+use Rattle.lent.specs.Lent.{over}
+use Rattle.lent.proofs.OverLaws.{over-entry}
+use Rattle.fields.proofs.PlaceLaws.{length-each}
+use Rattle.clamp_lines.specs.ClampPart.{clampAt}
 use Rattle.job_text.specs.Text.{rectangleOf}
 
 -- rectangles with the same sides
@@ -23,7 +27,7 @@ side-behind c cs k j =
     ap (λ (i : ℕ). getD (allSides (c ∷ cs)) i (pos 0)) four
 
 -- clamp k of the list of sides is the job's clamp k
-pub clamp-in-sides : (cs : List Clamp) (k : ℕ) → k < length cs → clampAt (allSides cs) k ≡ rectangleOf (getD cs k noClamp)
+clamp-in-sides : (cs : List Clamp) (k : ℕ) → k < length cs → clampAt (allSides cs) k ≡ rectangleOf (getD cs k noClamp)
 clamp-in-sides [] k h = absurd (omega arith)
 clamp-in-sides (c ∷ cs) zero h = refl
 clamp-in-sides (c ∷ cs) (suc k) h =
@@ -35,11 +39,19 @@ clamp-in-sides (c ∷ cs) (suc k) h =
         let four : 4 * suc k ≡ suc (suc (suc (suc (4 * k)))) = omega arith in
         ap (λ (i : ℕ). getD (allSides (c ∷ cs)) i (pos 0)) four
 
--- where row 14 passes all clamps it passes each
-both : (a b : Bool) → (a && b) ≡ true → (a ≡ true) × (b ≡ true)
-both true b h = (refl, h)
-both false b h = absurd (false≢true h)
+-- four sides a clamp
+pub sides-length : (cs : List Clamp) → length (allSides cs) ≡ 4 * length cs
+sides-length cs = length-each sides 4 (λ c. refl) cs
 
+-- so it is where the sides stand at the front of a longer list
+pub clamp-in-front : (cs : List Clamp) (before : List ℤ) (k : ℕ) → k < length cs → clampAt (over (allSides cs) before) k ≡ rectangleOf (getD cs k noClamp)
+clamp-in-front cs before k h =
+    let at : (i : ℕ) → i < length (allSides cs) → getD (over (allSides cs) before) i (pos 0) ≡ getD (allSides cs) i (pos 0) =
+    λ i inside. over-entry (allSides cs) before i (pos 0) inside in
+    same-sides (at (4 * k) (omega (arith, sides-length cs))) (at (4 * k + 1) (omega (arith, sides-length cs))) (at (4 * k + 2) (omega (arith, sides-length cs))) (at (4 * k + 3) (omega (arith, sides-length cs)))
+    ∙ clamp-in-sides cs k h
+
+-- where row 14 passes all clamps it passes each
 pub clamp-passes : (cs : List Clamp) (k : ℕ) → clampsOk cs ≡ true → k < length cs → rectangleOk (getD cs k noClamp .lowX) (getD cs k noClamp .highX) (getD cs k noClamp .lowY) (getD cs k noClamp .highY) ≡ true
 unfolding clampsOk
 clamp-passes [] k h i = absurd (omega arith)

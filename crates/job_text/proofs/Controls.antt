@@ -1,42 +1,42 @@
 -- The worked job, computed: its four lines, and the line on the refusal of a clamp with crossed sides.
-use mathlib.Core.List.{List, [], _∷_, _++_}
+use mathlib.Core.List.{[], _∷_, _++_}
 use mathlib.Core.Path.{_≡_, refl}
-use Prim.Native.Nat.{ℕ}
-use lib.IntN.{ℤ, pos}
+use Prim.Native.Nat.{ℕ, _+_}
+use lib.IntN.{pos}
+use Rattle.curve.specs.Lists.{Lists, lists}
+use Rattle.grid.specs.Limits.{clampsMost}
+use Rattle.report.specs.Part.{refusedPart}
 use Rattle.grid.specs.Check.{checkedThen}
-use Rattle.grid.specs.Rows.{degreeOk, pointCountOk, knotCountOk, risesFrom, knotOrderOk, allAre, endsOk, occurrences, repeatsMost, repeatsWithin, repeatsOk, onGrid, allOnGrid, rangeOk, rectangleOk}
+use Rattle.grid.specs.Rows.{degreeOk, pointCountOk, knotCountOk, risesFrom, knotOrderOk, allAre, endsOk, occurrences, repeatsMost, repeatsWithin, repeatsOk, onGrid, allOnGrid, rangeOk, axisOk, rectangleOk}
 use Rattle.boxes.specs.Meeting.{someAtMost, someAtLeast, meetsOnAxis}
 use Rattle.span_walk.specs.SpansMet.{upFrom, keep, boxMeets, spanCount, spansMet, lowKnots, highKnots}
-use Rattle.lines.specs.Letters.{a, c, d, e, f, g, i, l, m, n, o, p, r, s, t, u, v, y, space, dot, newline, digit}
-use Rattle.lines.specs.Decimal.{digitsOf, decimal}
-use Rattle.lines.specs.Lines.{curveLine, meetLine, clearLine, refusedLine, meetLines, clampText}
+use Rattle.digits.specs.Letters.{a, c, d, e, f, g, i, l, m, n, o, p, r, s, t, u, v, y, space, dot, newline, digit}
+use Rattle.digits.specs.Decimal.{digitsOf, decimal}
+use Rattle.lines.specs.Lines.{oneNumber, threeNumbers, meetLines, clampText}
 use Rattle.clamps.specs.Clamp.{Clamp, clampsOk}
-use Rattle.job_text.specs.Text.{textsFrom, textNumber, listsText}
+use Rattle.job_text.specs.Text.{acceptedPart, textNumber, partOf, joined}
 
 -- curve A
-abbrev pub knots : List ℕ
-knots = 0 ∷ 0 ∷ 0 ∷ 0 ∷ 4 ∷ 4 ∷ 4 ∷ 4 ∷ []
-
-abbrev pub across : List ℤ
-across = pos 0 ∷ pos 0 ∷ pos 8 ∷ pos 8 ∷ []
-
-abbrev pub up : List ℤ
-up = pos 0 ∷ pos 8 ∷ pos 8 ∷ pos 0 ∷ []
+abbrev pub curveA : Lists
+curveA =
+    lists (0 ∷ 0 ∷ 0 ∷ 0 ∷ 4 ∷ 4 ∷ 4 ∷ 4 ∷ [])
+    (pos 0 ∷ pos 0 ∷ pos 8 ∷ pos 8 ∷ [])
+    (pos 0 ∷ pos 8 ∷ pos 8 ∷ pos 0 ∷ [])
 
 -- a clamp from its sides: low x, high x, low y, high y
 abbrev pub clamp : ℕ → ℕ → ℕ → ℕ → Clamp
 clamp lowX highX lowY highY = record { lowX = pos lowX; highX = pos highX; lowY = pos lowY; highY = pos highY }
 
-pub worked-text : listsText 3 knots across up (clamp 2 3 5 9 ∷ clamp 9 12 0 4 ∷ clamp 8 10 8 9 ∷ [])
+pub worked-text : joined (partOf 3 curveA (clamp 2 3 5 9 ∷ clamp 9 12 0 4 ∷ clamp 8 10 8 9 ∷ [])) (clampsMost + 1)
     ≡ (c ∷ u ∷ r ∷ v ∷ e ∷ space ∷ d ∷ e ∷ g ∷ r ∷ e ∷ e ∷ space ∷ digit 3 ∷ space ∷ p ∷ o ∷ i ∷ n ∷ t ∷ s ∷ space ∷ digit 4 ∷ space ∷ s ∷ p ∷ a ∷ n ∷ s ∷ space ∷ digit 1 ∷ newline ∷ [])
     ++ (c ∷ l ∷ a ∷ m ∷ p ∷ space ∷ digit 1 ∷ space ∷ m ∷ a ∷ y ∷ space ∷ m ∷ e ∷ e ∷ t ∷ space ∷ digit 0 ∷ dot ∷ dot ∷ digit 4 ∷ newline ∷ [])
     ++ (c ∷ l ∷ a ∷ m ∷ p ∷ space ∷ digit 2 ∷ space ∷ c ∷ l ∷ e ∷ a ∷ r ∷ newline ∷ [])
     ++ (c ∷ l ∷ a ∷ m ∷ p ∷ space ∷ digit 3 ∷ space ∷ m ∷ a ∷ y ∷ space ∷ m ∷ e ∷ e ∷ t ∷ space ∷ digit 0 ∷ dot ∷ dot ∷ digit 4 ∷ newline ∷ [])
-unfolding listsText textNumber textsFrom checkedThen degreeOk pointCountOk knotCountOk risesFrom knotOrderOk allAre endsOk occurrences repeatsMost repeatsWithin repeatsOk onGrid allOnGrid rangeOk rectangleOk clampsOk upFrom keep boxMeets spanCount spansMet lowKnots highKnots someAtMost someAtLeast meetsOnAxis digitsOf decimal curveLine meetLine clearLine refusedLine meetLines clampText
+unfolding joined partOf textNumber acceptedPart refusedPart checkedThen degreeOk pointCountOk knotCountOk risesFrom knotOrderOk allAre endsOk occurrences repeatsMost repeatsWithin repeatsOk onGrid allOnGrid rangeOk axisOk rectangleOk clampsOk upFrom keep boxMeets spanCount spansMet lowKnots highKnots someAtMost someAtLeast meetsOnAxis digitsOf decimal oneNumber threeNumbers meetLines clampText
 worked-text = refl
 
 -- the second clamp's low x above its high x
-pub crossed-text : listsText 3 knots across up (clamp 2 3 5 9 ∷ clamp 12 9 0 4 ∷ [])
+pub crossed-text : joined (partOf 3 curveA (clamp 2 3 5 9 ∷ clamp 12 9 0 4 ∷ [])) (clampsMost + 1)
     ≡ (r ∷ e ∷ f ∷ u ∷ s ∷ e ∷ d ∷ space ∷ digit 1 ∷ digit 4 ∷ newline ∷ [])
-unfolding listsText textNumber textsFrom checkedThen degreeOk pointCountOk knotCountOk risesFrom knotOrderOk allAre endsOk occurrences repeatsMost repeatsWithin repeatsOk onGrid allOnGrid rangeOk rectangleOk clampsOk upFrom keep boxMeets spanCount spansMet lowKnots highKnots someAtMost someAtLeast meetsOnAxis digitsOf decimal curveLine meetLine clearLine refusedLine meetLines clampText
+unfolding joined partOf textNumber acceptedPart refusedPart checkedThen degreeOk pointCountOk knotCountOk risesFrom knotOrderOk allAre endsOk occurrences repeatsMost repeatsWithin repeatsOk onGrid allOnGrid rangeOk axisOk rectangleOk clampsOk upFrom keep boxMeets spanCount spansMet lowKnots highKnots someAtMost someAtLeast meetsOnAxis digitsOf decimal oneNumber threeNumbers meetLines clampText
 crossed-text = refl

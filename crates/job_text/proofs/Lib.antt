@@ -1,8 +1,7 @@
--- Why what the program writes is the text of its input.
-pub mod AcceptedLaws
+-- Why the program writes the text of its input.
 pub mod ClampLaws
 pub mod Controls
-pub mod FrontLaws
+pub mod ReadLaws
 pub mod RoomLaws
 pub mod TextLaws
 pub mod UniqueLaws

@@ -1,37 +1,30 @@
 -- The program's places are enough for every job: 15 is never given.
 use mathlib.Core.List.{List}
-use mathlib.Core.Path.{_≡_, refl}
-use Prim.Native.Nat.{ℕ, _*_}
+use mathlib.Core.Path.{_≡_}
+use Prim.Native.Nat.{ℕ}
 use native.Mathlib.Omega.{arith}
 use lib.IntN.{ℤ}
 use lib.ListN.{length}
 use borrow.Author.Tests.{le-leb}
-use Rattle.fields.proofs.PlaceLaws.{length-each}
+use Rattle.curve.specs.Lists.{Lists}
+use Rattle.curve.proofs.RoomLaws.{enough-all}
 use Rattle.format.specs.Format.{form1}
 use Rattle.format.proofs.SizeLaws.{length-knots, length-coordinates}
-use Rattle.clamps.specs.Clamp.{Clamp, sides, allSides}
+use Rattle.clamps.specs.Clamp.{Clamp, allSides}
 use Rattle.job.specs.JobFormat.{StorableJob}
 use Rattle.job.specs.JobReading.{jobNumber}
+use Rattle.job_text.specs.Program.{Places}
 use Rattle.job_text.specs.Text.{textNumber}
-use Rattle.job_text.specs.Written.{knotPlaces, coordinatePlaces, sidePlaces}
+use Rattle.job_text.proofs.ClampLaws.{sides-length}
 
--- the program's four lists
-pub record Places (knots : List ℕ) (across up around : List ℤ) : Type 0 where
-  pub onKnots : length knots ≡ knotPlaces
-  pub onX : length across ≡ coordinatePlaces
-  pub onY : length up ≡ coordinatePlaces
-  pub onClamps : length around ≡ sidePlaces
-
--- four sides a clamp
-pub sides-length : (cs : List Clamp) → length (allSides cs) ≡ 4 * length cs
-sides-length cs = length-each sides 4 (λ c. refl) cs
-
-pub number-same : (m : ℕ) (ts : List ℕ) (xs ys : List ℤ) (cs : List Clamp) (knots : List ℕ) (across up around : List ℤ) → StorableJob form1 m ts xs ys cs → Places knots across up around → jobNumber m ts xs ys cs knots across up around ≡ textNumber m ts xs ys cs
+pub number-same : (m : ℕ) (c : Lists) (cs : List Clamp) (lent : Lists) (sides : List ℤ) → StorableJob form1 m c cs → Places lent sides
+    → jobNumber m c cs lent (length sides) ≡ textNumber m c cs
 unfolding jobNumber textNumber
-number-same m ts xs ys cs knots across up around w p =
+number-same m c cs lent sides w p =
     rw (
-      le-leb (length ts) (length knots) (omega (arith, w .curve .knotRoom, length-knots ts, p .onKnots)),
-      le-leb (length xs) (length across) (omega (arith, w .curve .xRoom, length-coordinates xs, p .onX)),
-      le-leb (length ys) (length up) (omega (arith, w .curve .yRoom, length-coordinates ys, p .onY)),
-      le-leb (length (allSides cs)) (length around) (omega (arith, w .few, sides-length cs, p .onClamps)),
+      le-leb (length (allSides cs)) (length sides) (omega (arith, w .few, sides-length cs, p .onSides)),
+      enough-all (length (c .knots)) (length (c .xs)) (length (c .ys)) (length (lent .knots)) (length (lent .xs)) (length (lent .ys))
+          (omega (arith, w .curve .knotRoom, length-knots (c .knots), p .onKnots))
+          (omega (arith, w .curve .xRoom, length-coordinates (c .xs), p .onX))
+          (omega (arith, w .curve .yRoom, length-coordinates (c .ys), p .onY)),
     )

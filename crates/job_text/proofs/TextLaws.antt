@@ -1,69 +1,57 @@
--- What the program writes is the text of its input: for any bytes, whatever the reader answers and leaves in the lists.
-use mathlib.Core.Bool.{Bool, true, false, cond}
-use mathlib.Core.List.{List, _++_}
-use mathlib.Core.Path.{_≡_, refl, sym, _∙_, ap, ap₂}
-use Prim.Native.Nat.{ℕ, _+_}
-use native.Mathlib.Omega.{arith}
+-- What the program puts is the text of its input: for any bytes, whatever the reader answers and leaves in the lists.
+use mathlib.Core.Bool.{Bool, true, false}
+use mathlib.Core.List.{List}
+use mathlib.Core.Path.{_≡_, refl, sym, _∙_}
+use Prim.Native.Nat.{ℕ}
 use lib.Dec.{eqb}
 use lib.IntN.{ℤ}
 use lib.ListN.{length}
-use Rattle.refusal.specs.Numbers.{accepted, bytesRefused}
-use Rattle.grid.specs.Check.{checkNumber}
-use Rattle.grid.proofs.ThenLaws.{checkedThen-passed}
-use Rattle.span_walk.specs.SpansMet.{spanCount}
-use Rattle.lines.specs.Lines.{curveLine, refusedLine}
-use Rattle.clamps.specs.Clamp.{Clamp, clampsOk}
-use Rattle.job.specs.JobReading.{jobNumber, jobAnswer, JobRead, lists, none}
-use Rattle.job.specs.declared.JobAnswer.{JobAnswer}
-use Rattle.job.specs.declared.JobAnswer.the-variants.{Job, Refused}
-use Rattle.report.proofs.PartLaws.{refusedPart-text}
+use borrow.Author.Tests.{le-leb, eqb-true}
+use Rattle.refusal.specs.Numbers.{accepted}
+use Rattle.lent.specs.Lent.{after}
+use Rattle.curve.specs.Lists.{Lists}
+use Rattle.curve.specs.HandingOver.{handedOver}
+use Rattle.format.specs.Format.{form1}
+use Rattle.clamps.specs.Clamp.{Clamp, allSides}
+use Rattle.job.specs.JobFormat.{StorableJob}
+use Rattle.job.specs.JobReading as reading
+use Rattle.job.specs.JobReading.{jobNumber, jobAnswer, JobComesTo}
+use Rattle.clamp_lines.specs.Places.{textMost}
+use Rattle.report.specs.Part.{answerPart, partPut}
 use Rattle.job_text.specs.Text as text
-use Rattle.job_text.specs.Text.{textsFrom, textNumber, listsText, TextOf}
-use Rattle.job_text.specs.Written.{textPlaces, written}
-use Rattle.job_text.proofs.AcceptedLaws.{curve-told, clamps-told}
-use Rattle.job_text.proofs.FrontLaws.{Fronts, fronts}
-use Rattle.job_text.proofs.RoomLaws.{Places, number-same}
+use Rattle.job_text.specs.Text.{textNumber, partOf, PartOf}
+use Rattle.job_text.specs.Program.{Places, PartsAreTheText, WrittenIsText}
+use Rattle.job_text.proofs.ReadLaws.{job-read}
+use Rattle.job_text.proofs.RoomLaws.{number-same}
 
--- an answer that is a refusal has the number of the job's refusal, which is not 0
-refused-number : (number n m k c : ℕ) → Refused n ≡ jobAnswer number m k c → (n ≡ number) × (eqb number accepted ≡ false)
-refused-number number n m k c h = by (eqb number accepted) refl h
-  where
-    by : (t : Bool) → eqb number accepted ≡ t → Refused n ≡ cond t (Job m k c) (Refused number) → (n ≡ number) × (eqb number accepted ≡ false)
-    by true e j = absurd (let z : _≡_ {A = ℕ} 0 1 = cc in omega arith)
-    by false e j = (cc, e)
+-- the part of a job, by its number
+module _ (m : ℕ) (c : Lists) (cs : List Clamp) (before : Lists) (sidesBefore : List ℤ) (k : ℕ) (few : StorableJob form1 m c cs) where
+  job-part : (number : ℕ) → number ≡ textNumber m c cs
+      → answerPart (jobAnswer number m (length (c .xs)) (length cs)) (handedOver number c before) (after number (allSides cs) sidesBefore) k ≡ partOf m c cs k
+  unfolding partOf
+  job-part number e = by (eqb number accepted) refl
+    where
+      by : (t : Bool) → eqb number accepted ≡ t
+          → answerPart (jobAnswer number m (length (c .xs)) (length cs)) (handedOver number c before) (after number (allSides cs) sidesBefore) k ≡ partOf m c cs k
+      by true z =
+          let none : number ≡ 0 = eqb-true number accepted z in
+          let text-none : textNumber m c cs ≡ 0 = sym e ∙ none in
+          rw (none, text-none) (job-read m c cs before sidesBefore (few .few) text-none k)
+      by false z = rw (z, sym e, z)
 
--- a refused job
-refusal-written : (bytes knots : List ℕ) (across up around : List ℤ) (n : ℕ) (knots₁ : List ℕ) (across₁ up₁ around₁ : List ℤ) → Places knots across up around → JobRead bytes knots across up around (Refused n) knots₁ across₁ up₁ around₁ → TextOf bytes (written (Refused n) knots₁ across₁ up₁ around₁)
-unfolding listsText
-refusal-written bytes knots across up around n knots₁ across₁ up₁ around₁ p (lists w r) =
-    let same = number-same (w .m) (w .ts) (w .xs) (w .ys) (w .cs) knots across up around (w .storable) p in
-    let a = refused-number (jobNumber (w .m) (w .ts) (w .xs) (w .ys) (w .cs) knots across up around) n (w .m) (length (w .xs)) (length (w .cs)) (r .answer) in
-    let refused : eqb (textNumber (w .m) (w .ts) (w .xs) (w .ys) (w .cs)) accepted ≡ false = rw same at (a .1) in
-    text.lists w (refusedPart-text n textPlaces (omega arith) ∙ ap refusedLine (a .0 ∙ same) ∙ rw refused)
-refusal-written bytes knots across up around n knots₁ across₁ up₁ around₁ p (none nobody e f g h i) =
-    let number : n ≡ bytesRefused = cc in
-    text.none nobody (refusedPart-text n textPlaces (omega arith) ∙ ap refusedLine number)
+from-cases : (bytes : List ℕ) (before : Lists) (sidesBefore : List ℤ) (k : ℕ) → Places before sidesBefore
+    → (number m : ℕ) (c : Lists) (cs : List Clamp) → JobComesTo bytes before (length sidesBefore) number m c cs
+    → PartOf bytes k (answerPart (jobAnswer number m (length (c .xs)) (length cs)) (handedOver number c before) (after number (allSides cs) sidesBefore) k)
+from-cases bytes before sidesBefore k p number m c cs (reading.isJob w) =
+    text.isJob w (job-part (w .m) (w .c) (w .cs) before sidesBefore k (w .storable) (jobNumber (w .m) (w .c) (w .cs) before (length sidesBefore)) (number-same (w .m) (w .c) (w .cs) before sidesBefore (w .storable) p))
+from-cases bytes before sidesBefore k p number m c cs (reading.isNone nobody n d ds) = text.isNone nobody refl
 
--- a job that was read
-accepted-text : (m : ℕ) (ts : List ℕ) (xs ys : List ℤ) (cs : List Clamp) → checkNumber m ts xs ys ≡ 0 → clampsOk cs ≡ true → listsText m ts xs ys cs ≡ curveLine m (length xs) (spanCount m ts (length xs)) ++ textsFrom m ts xs ys 1 cs
-unfolding listsText textNumber
-accepted-text m ts xs ys cs h s =
-    let number : textNumber m ts xs ys cs ≡ 0 = checkedThen-passed m ts xs ys _ h ∙ rw s in
-    rw number
+pub parts-are-the-text : PartsAreTheText
+parts-are-the-text bytes answer now sides k places r room =
+    let h = r .read in
+    rw (le-leb textMost places room, h .answers, h .hands, h .clampsNow)
+    (from-cases bytes (r .before) (r .sidesBefore) k (r .places) (h .number) (h .m) (h .c) (h .cs) (h .comesTo))
 
-job-written : (bytes : List ℕ) (m points count : ℕ) (knots : List ℕ) (across up around : List ℤ) → Fronts bytes m points count knots across up around → TextOf bytes (written (Job m points count) knots across up around)
-job-written bytes m points count knots across up around f =
-    let w = f .job in
-    text.lists w
-    (rw (f .onKnots .holds, f .onX .holds, f .onY .holds, f .onClamps .holds, f .sameDegree, f .samePoints, f .sameCount)
-    (ap₂ (λ (a b : List ℕ). a ++ b)
-    (curve-told (w .m) (w .ts) (w .xs) (w .ys) (w .cs) (f .passed) (f .sound) (w .storable .few))
-    (clamps-told (w .m) (w .ts) (w .xs) (w .ys) (w .cs) (f .passed) (f .sound) (w .storable .few) (length (w .cs)) 0 (omega arith))
-    ∙ sym (accepted-text (w .m) (w .ts) (w .xs) (w .ys) (w .cs) (f .passed) (f .sound))))
-
--- for any bytes, over the program's places
-pub written-is-text : (bytes knots : List ℕ) (across up around : List ℤ) (r : JobAnswer) (knots₁ : List ℕ) (across₁ up₁ around₁ : List ℤ) → Places knots across up around → JobRead bytes knots across up around r knots₁ across₁ up₁ around₁ → TextOf bytes (written r knots₁ across₁ up₁ around₁)
-written-is-text bytes knots across up around (Refused n) knots₁ across₁ up₁ around₁ p h =
-    refusal-written bytes knots across up around n knots₁ across₁ up₁ around₁ p h
-written-is-text bytes knots across up around (Job m points count) knots₁ across₁ up₁ around₁ p h =
-    job-written bytes m points count knots₁ across₁ up₁ around₁ (fronts bytes knots across up around m points count knots₁ across₁ up₁ around₁ h)
+pub written-is-text : WrittenIsText
+written-is-text bytes answer now sides places r room =
+    record { part = λ k. partPut answer now sides k places; each = λ k. parts-are-the-text bytes answer now sides k places r room; whole = refl }

@@ -1,3 +1,3 @@
--- The whole text of a job, and what the program writes.
+-- The text of some bytes, and why the program writes it.
 pub mod Text
-pub mod Written
+pub mod Program

@@ -1,48 +1,53 @@
--- The whole text that the program prints on some bytes (heading "Worked by hand"), by what the bytes are and with no word of a reader.
+-- The text that the program prints on some bytes (heading "`clampcheck`"), by what the bytes are and with no word of a reader. It is told in
+-- parts: part 0 is the line on the curve or on the refusal, part k from 1 on all lines on clamp k; past the last clamp a part is empty.
 use mathlib.Core.Bool.{cond}
-use mathlib.Core.List.{List, [], _∷_, _++_}
+use mathlib.Core.List.{List, [], _++_}
 use mathlib.Core.Path.{_≡_}
-use Prim.Native.Nat.{ℕ, _+_}
-use lib.Dec.{eqb}
-use lib.IntN.{ℤ}
-use lib.ListN.{length}
+use Prim.Native.Nat.{ℕ, zero, suc, _+_}
+use lib.Dec.{eqb, ltb}
+use lib.ListN.{length, getD}
 use Rattle.refusal.specs.Judging.{unless}
 use Rattle.refusal.specs.Numbers.{accepted, rectangleRefused, bytesRefused}
+use Rattle.curve.specs.Lists.{Lists}
+use Rattle.grid.specs.Limits.{clampsMost}
 use Rattle.grid.specs.Check.{checkedThen}
 use Rattle.boxes.specs.declared.Rectangle.{Rectangle}
-use Rattle.span_walk.specs.SpansMet.{spanCount, metBy, lowKnots, highKnots}
-use Rattle.lines.specs.Lines.{curveLine, refusedLine, clampText}
 use Rattle.format.specs.Format.{form1}
-use Rattle.clamps.specs.Clamp.{Clamp, clampsOk}
+use Rattle.clamps.specs.Clamp.{Clamp, noClamp, clampsOk}
 use Rattle.job.specs.JobFormat.{IsJob}
+use Rattle.clamp_lines.specs.ClampPart.{clampLines}
+use Rattle.report.specs.Part.{curveText, refusedPart}
 
 -- a job's clamp as the rectangle that the list call takes
 abbrev pub rectangleOf : Clamp → Rectangle
-rectangleOf c =
-    record { «low_x» = c .lowX; «high_x» = c .highX; «low_y» = c .lowY; «high_y» = c .highY }
+rectangleOf clamp = record { «low_x» = clamp .lowX; «high_x» = clamp .highX; «low_y» = clamp .lowY; «high_y» = clamp .highY }
 
--- the text of a clamp with its number: a line for each span that may meet it, or that it is clear
-abbrev pub textOf : ℕ → List ℕ → List ℤ → List ℤ → ℕ → Clamp → List ℕ
-textOf m ts xs ys number c =
-    clampText number (lowKnots ts (metBy (rectangleOf c) m ts xs ys)) (highKnots ts (metBy (rectangleOf c) m ts xs ys))
+-- part k of an accepted job: the line on its curve, then for each clamp, numbered from 1, a line for each span that may meet it or one that it
+-- is clear
+unfoldable pub acceptedPart : ℕ → Lists → List Clamp → ℕ → List ℕ
+acceptedPart m c cs zero = curveText m c
+acceptedPart m c cs (suc k) = cond (ltb k (length cs)) (clampLines m c (suc k) (rectangleOf (getD cs k noClamp))) []
 
--- the texts of clamps in their order, numbered from `number` on
-unfoldable pub textsFrom : ℕ → List ℕ → List ℤ → List ℤ → ℕ → List Clamp → List ℕ
-textsFrom m ts xs ys number [] = []
-textsFrom m ts xs ys number (c ∷ cs) = textOf m ts xs ys number c ++ textsFrom m ts xs ys (number + 1) cs
+-- the number of refusal: 1 to 7 for the curve, then 14 for any clamp
+unfoldable pub textNumber : ℕ → Lists → List Clamp → ℕ
+textNumber m c cs = checkedThen m (c .knots) (c .xs) (c .ys) (unless (clampsOk cs) rectangleRefused accepted)
 
--- the number of a refusal: 1 to 7 for the curve, then 14 for any clamp
-unfoldable pub textNumber : ℕ → List ℕ → List ℤ → List ℤ → List Clamp → ℕ
-textNumber m ts xs ys cs = checkedThen m ts xs ys (unless (clampsOk cs) rectangleRefused accepted)
+-- part k of a job: that of its curve and clamps, or of its refusal
+unfoldable pub partOf : ℕ → Lists → List Clamp → ℕ → List ℕ
+partOf m c cs k = cond (eqb (textNumber m c cs) accepted) (acceptedPart m c cs k) (refusedPart (textNumber m c cs) k)
 
--- the line on the curve and then the clamps, numbered from 1; a refused job has the line on its refusal alone
-unfoldable pub listsText : ℕ → List ℕ → List ℤ → List ℤ → List Clamp → List ℕ
-listsText m ts xs ys cs =
-    cond (eqb (textNumber m ts xs ys cs) accepted)
-    (curveLine m (length xs) (spanCount m ts (length xs)) ++ textsFrom m ts xs ys 1 cs)
-    (refusedLine (textNumber m ts xs ys cs))
+-- part k of the text of some bytes: that of the job that they are, or of refusal 16 where they are nobody's
+pub data PartOf (bytes : List ℕ) (k : ℕ) (part : List ℕ) : Type 0 where
+  isJob : (w : IsJob form1 bytes) → part ≡ partOf (w .m) (w .c) (w .cs) k → PartOf bytes k part
+  isNone : (IsJob form1 bytes → ⊥) → part ≡ refusedPart bytesRefused k → PartOf bytes k part
 
--- bytes have a text: that of the lists whose job they are, or the line on refusal 16 where they are nobody's
-pub data TextOf (bytes text : List ℕ) : Type 0 where
-  lists : (w : IsJob form1 bytes) → text ≡ listsText (w .m) (w .ts) (w .xs) (w .ys) (w .cs) → TextOf bytes text
-  none : (IsJob form1 bytes → ⊥) → text ≡ refusedLine bytesRefused → TextOf bytes text
+-- the first n parts, in their order
+unfoldable pub joined : (ℕ → List ℕ) → ℕ → List ℕ
+joined part zero = []
+joined part (suc n) = joined part n ++ part n
+
+-- the whole text: parts 0 to 64
+pub record TextOf (bytes text : List ℕ) : Type 0 where
+  pub part : ℕ → List ℕ
+  pub each : (k : ℕ) → PartOf bytes k (part k)
+  pub whole : text ≡ joined part (clampsMost + 1)

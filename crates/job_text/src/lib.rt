@@ -1,1 +1,1 @@
-// The whole text of a job. There is nothing here that runs.
+// The text of a job. There is nothing here that runs.

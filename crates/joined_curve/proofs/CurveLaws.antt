@@ -1,7 +1,7 @@
 -- The joined curve entry by entry, where inner knots stand three times: the first point and three for each piece; the first knot four
 -- times, each one after it three times, and the last once more. So its lengths.
-use mathlib.Core.List.{List, [], _∷_, _++_}
-use mathlib.Core.Path.{_≡_, refl, sym, ap, _∙_}
+use mathlib.Core.List.{List, [], _∷_}
+use mathlib.Core.Path.{_≡_, refl, ap, _∙_}
 use Prim.Native.Nat.{ℕ, zero, suc, _+_, _-_, _*_, _≤_}
 use native.Mathlib.Omega.{arith}
 use lib.IntN.{ℤ, pos}
@@ -13,12 +13,12 @@ use Rattle.spline_pieces.proofs.PieceLaws.{piecesOn, pieces-all, pieces-more}
 -- three points for each piece
 unfoldable pub threes : List Piece → List ℤ
 threes [] = []
-threes (piece ∷ rest) = piece .b1 ∷ piece .b2 ∷ piece .b3 ∷ threes rest
+threes (piece ∷ rest) = piece .leaving ∷ piece .arriving ∷ piece .end ∷ threes rest
 
 after-threes : (piece : Piece) (rest : List Piece) → pointsAfter innerKnots piece rest ≡ threes (piece ∷ rest)
 unfolding pointsAfter threes
 after-threes piece [] = refl
-after-threes piece (next ∷ rest) = ap (λ l. piece .b1 ∷ piece .b2 ∷ piece .b3 ∷ l) (after-threes next rest)
+after-threes piece (next ∷ rest) = ap (λ l. piece .leaving ∷ piece .arriving ∷ piece .end ∷ l) (after-threes next rest)
 
 -- the knots after those of piece i's start, with `count` pieces to come: three of each, then the last once more
 unfoldable pub knotsLeft : List ℕ → ℕ → ℕ → List ℕ

@@ -1,3 +1,7 @@
 -- Laws of the joined curve.
 pub mod CurveLaws
-pub mod WritingLaws
+pub mod GridLaws
+pub mod KnotLaws
+pub mod PointLaws
+pub mod SentenceLaws
+mod Controls

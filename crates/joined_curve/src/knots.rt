@@ -1,35 +1,41 @@
 // The knots.
 ghost use mathlib.Core.List.{List};
 ghost use mathlib.Core.Path.{_≡_};
-ghost use Prim.Native.Nat.{_+_, _*_, _≤_};
+ghost use Prim.Native.Nat.{ℕ, _+_, _*_, _≤_, _<_};
 ghost use lib.IntN.{ℤ};
-ghost use lib.ListN.{length};
+ghost use lib.ListN.{length, getD};
 ghost use Rattle.lent.specs.Lent.{over};
 ghost use Rattle.spline_pieces.specs.Pieces.{pieces};
 ghost use Rattle.spline_pieces.specs.Standing.{Rising};
 ghost use Rattle.joined_curve.specs.Curve.{innerKnots, joinedKnots};
 
-// The first four times, each one after it three times, and the last once more.
+// Which of so many parameters knot j is: each stands three times, the first and the last once more.
+fn parameter_of(j: usize, count: usize) -> usize
+    requires { ⌜ (2 ≤ count) × (j < 3 * count + 2) ⌝ }
+    ensures answer { λ r. ⌜ (r < count) × ((ss : List ℕ) (ps ds : List ℤ) → length ss ≡ count
+        → getD ss r 0 ≡ getD (joinedKnots innerKnots (pieces ss ps ds)) j 0) ⌝ }
+{
+    if j == 0 {
+        return 0;
+    }
+    let i = (j - 1) / 3;
+    if i < count {
+        return i;
+    }
+    count - 1
+}
+
+// All knots.
 pub fn write_knots(params: &[u16], out: &mut [u16])
     requires { ⌜ Rising (now params) ⌝ }
     requires { ⌜ 3 * length (now params) + 2 ≤ length (now out) ⌝ }
-    ensures result { λ _. ⌜ ((ps ds : List ℤ) → now (out .exit) ≡ over (joinedKnots innerKnots (pieces (now (params .entry)) ps ds)) (now (out .entry))) ⌝ }
+    ensures result { λ _. ⌜ ((ps ds : List ℤ) → now (out .exit)
+        ≡ over (joinedKnots innerKnots (pieces (now (params .entry)) ps ds)) (now (out .entry))) ⌝ }
 {
-    let first = params[0];
-    out[0] = first;
-    out[1] = first;
-    out[2] = first;
-    out[3] = first;
-    let mut at = 4;
-    let mut i = 0;
-    while i + 1 < params.len() {
-        i += 1;
-        let s = params[i];
-        out[at] = s;
-        out[at + 1] = s;
-        out[at + 2] = s;
-        at += 3;
+    let count = 3 * params.len() + 2;
+    let mut j = 0;
+    while j < count {
+        out[j] = params[parameter_of(j, params.len())];
+        j += 1;
     }
-    let last = params[i];
-    out[at] = last;
 }

@@ -1,29 +1,53 @@
 // The control points of one axis.
 ghost use mathlib.Core.Bool.{true};
 ghost use mathlib.Core.Path.{_≡_};
-ghost use Prim.Native.Nat.{_+_, _*_, _≤_};
-ghost use lib.ListN.{length};
+ghost use Prim.Native.Nat.{_+_, _*_, _≤_, _<_};
+ghost use lib.IntN.{pos};
+ghost use lib.ListN.{length, getD};
 ghost use Rattle.lent.specs.Lent.{over};
+ghost use Rattle.grid.specs.Rows.{onGrid};
 ghost use Rattle.spline_pieces.specs.Pieces.{pieces, allPiecesOnGrid};
 ghost use Rattle.spline_pieces.specs.Standing.{Axis};
 ghost use Rattle.joined_curve.specs.Curve.{innerKnots, joinedPoints};
 
-// The first point, then three for each piece.
-pub fn write_points(params: &[u16], ps: &[i32], ts: &[i32], out: &mut [i32])
-    requires { ⌜ Axis (now params) (now ps) (now ts) ⌝ }
-    requires { ⌜ allPiecesOnGrid (pieces (now params) (now ps) (now ts)) ≡ true ⌝ }
-    requires { ⌜ 3 * length (now params) ≤ length (now out) + 2 ⌝ }
-    ensures result { λ _. ⌜ now (out .exit) ≡ over (joinedPoints innerKnots (pieces (now (params .entry)) (now (ps .entry)) (now (ts .entry)))) (now (out .entry)) ⌝ }
+// A number of the grid in the type of coordinates.
+fn narrowed(z: i64) -> i32
+    requires { ⌜ onGrid z ≡ true ⌝ }
+    ensures answer { λ r. ⌜ r ≡ z ⌝ }
 {
-    out[0] = ps[0];
-    let mut at = 1;
-    let mut i = 0;
-    while i + 1 < params.len() {
-        out[at] = spline_pieces::narrowed(spline_pieces::b1_at(params, ps, ts, i));
-        out[at + 1] = spline_pieces::narrowed(spline_pieces::b2_at(params, ps, ts, i));
-        i += 1;
-        let b3 = ps[i];
-        out[at + 2] = b3;
-        at += 3;
+    z as i32
+}
+
+// Point j: each piece gives its start, the point that leaves it and the point that arrives at its end; the last end comes last.
+fn joined_point(params: &[u16], ps: &[i32], ds: &[i32], j: usize) -> i32
+    requires { ⌜ Axis (now params) (now ps) (now ds) ⌝ }
+    requires { ⌜ allPiecesOnGrid (pieces (now params) (now ps) (now ds)) ≡ true ⌝ }
+    requires { ⌜ j + 2 < 3 * length (now params) ⌝ }
+    ensures answer { λ r. ⌜ r ≡ getD (joinedPoints innerKnots (pieces (now (params .entry)) (now (ps .entry)) (now (ds .entry)))) j (pos 0) ⌝ }
+{
+    let i = j / 3;
+    let place = j % 3;
+    if place == 0 {
+        return ps[i];
+    }
+    if place == 1 {
+        return narrowed(spline_pieces::leaving_point(params, ps, ds, i));
+    }
+    narrowed(spline_pieces::arriving_point(params, ps, ds, i))
+}
+
+// All points.
+pub fn write_points(params: &[u16], ps: &[i32], ds: &[i32], out: &mut [i32])
+    requires { ⌜ Axis (now params) (now ps) (now ds) ⌝ }
+    requires { ⌜ allPiecesOnGrid (pieces (now params) (now ps) (now ds)) ≡ true ⌝ }
+    requires { ⌜ 3 * length (now params) ≤ length (now out) + 2 ⌝ }
+    ensures result { λ _. ⌜ now (out .exit)
+        ≡ over (joinedPoints innerKnots (pieces (now (params .entry)) (now (ps .entry)) (now (ds .entry)))) (now (out .entry)) ⌝ }
+{
+    let count = 3 * params.len() - 2;
+    let mut j = 0;
+    while j < count {
+        out[j] = joined_point(params, ps, ds, j);
+        j += 1;
     }
 }

@@ -1,5 +1,6 @@
--- Laws of the joining call.
+-- Laws of joining.
 pub mod RisingLaws
 pub mod StandingLaws
 pub mod RoomLaws
-pub mod AnswerLaws
+pub mod SentenceLaws
+mod Controls

@@ -11,8 +11,8 @@ use lib.ListN.{length, getD, drop, drop-of-length-le}
 use lib.Seq.{drop-cons}
 use borrow.Author.Tests.{le-leb, lt-leb, leb-true}
 use Rattle.grid.specs.Limits.{knotMost}
-use Rattle.grid.proofs.OrderLaws.{both}
-use Rattle.joining.specs.Answer.{risesStrictlyFrom}
+use Rattle.refusal.proofs.JudgingLaws.{both}
+use Rattle.joining.specs.SplinePoints.{risesStrictlyFrom}
 
 module _ (ss : List ℕ) (low i : ℕ) where
   step : i < length ss

@@ -1,107 +1,85 @@
--- What an accepted 17 says of the five lists, an accepted 7 of their entries, and number 0 of all.
-use mathlib.Core.Bool.{true, _&&_}
-use mathlib.Core.List.{List}
-use mathlib.Core.Path.{_≡_}
+-- What an accepted 17 says of the five lists, an accepted 7 of the points, and number 0 of all; and what is judged after them.
+use mathlib.Core.Bool.{true, cond, _&&_}
+use mathlib.Core.Path.{_≡_, refl, _∙_}
 use Prim.Native.Nat.{ℕ, _≤_}
 use lib.Dec.{leb, eqb}
-use lib.IntN.{ℤ}
-use lib.ListN.{length}
-use borrow.Author.Tests.{leb-true, eqb-true}
-use Rattle.refusal.proofs.JudgingLaws.{unless-accepted}
-use Rattle.grid.specs.Limits.{splinePointsLeast, splinePointsMost}
+use lib.ListN.{length, getD}
+use borrow.Author.Tests.{leb-true, eqb-true, ne-eqb}
+use Rattle.refusal.proofs.JudgingLaws.{both, unless-accepted, unless-split}
+use Rattle.grid.specs.Limits.{knotMost, splinePointsLeast, splinePointsMost}
 use Rattle.grid.specs.Rows.{rangeOk, allOnGrid}
-use Rattle.grid.proofs.OrderLaws.{both}
-use Rattle.spline_pieces.specs.Pieces.{pieces, allWhole, allPiecesOnGrid}
-use Rattle.joining.specs.Answer.{risesStrictlyFrom, splineCountOk, countsAgree, splinePointsOk, roomOk, joinRefusal}
+use Rattle.spline_pieces.specs.Pieces.{allWhole, allPiecesOnGrid}
 use Rattle.spline_pieces.specs.Standing.{Rising, Axis}
-use Rattle.joining.proofs.RisingLaws.{rises-next}
+use Rattle.joining.specs.SplinePoints.{SplinePoints, piecesX, piecesY, risesStrictlyFrom, splineCountOk, countsAgree, splinePointsOk}
+use Rattle.joining.specs.Answer.{joinableThen}
+use Rattle.joining.proofs.RisingLaws.{rises-next, rises-most}
 
-pub rising-of : (ss : List ℕ) → splineCountOk (length ss) ≡ true → risesStrictlyFrom 0 ss ≡ true → Rising ss
-unfolding splineCountOk
-rising-of ss e f =
-    let bounds = both (leb splinePointsLeast (length ss)) (leb (length ss) splinePointsMost) e in
-    record { least = leb-true _ _ (bounds .0); most = leb-true _ _ (bounds .1); rises = rises-next 0 ss f }
+-- both axes have as many points and tangents as there are parameters, and no parameter is above the largest knot
+pub record Standing (s : SplinePoints) : Type 0 where
+  pub x-axis : Axis (s .params) (s .xs) (s .dxs)
+  pub y-axis : Axis (s .params) (s .ys) (s .dys)
+  pub largest : (i : ℕ) → getD (s .params) i 0 ≤ knotMost
 
--- four lists of one length
-pub record Agreeing (ss : List ℕ) (xs ys dxs dys : List ℤ) : Type 0 where
-  pub xs-count : length xs ≡ length ss
-  pub ys-count : length ys ≡ length ss
-  pub dxs-count : length dxs ≡ length ss
-  pub dys-count : length dys ≡ length ss
-
-module _ (ss : List ℕ) (xs ys dxs dys : List ℤ) where
-  pub agreeing-of : countsAgree ss xs ys dxs dys ≡ true → Agreeing ss xs ys dxs dys
-  unfolding countsAgree
-  agreeing-of e =
-      let x = eqb (length xs) (length ss) in
-      let y = eqb (length ys) (length ss) in
-      let dx = eqb (length dxs) (length ss) in
-      let dy = eqb (length dys) (length ss) in
-      let three = both (x && y && dx) dy e in
+module _ (s : SplinePoints) where
+  pub standing-of : splinePointsOk s ≡ true → Standing s
+  unfolding splinePointsOk splineCountOk countsAgree
+  standing-of e =
+      let ss = s .params in
+      let x = eqb (length (s .xs)) (length ss) in
+      let y = eqb (length (s .ys)) (length ss) in
+      let dx = eqb (length (s .dxs)) (length ss) in
+      let dy = eqb (length (s .dys)) (length ss) in
+      let all = both (splineCountOk (length ss) && countsAgree s) (risesStrictlyFrom 0 ss) e in
+      let counts = both (splineCountOk (length ss)) (countsAgree s) (all .0) in
+      let bounds = both (leb splinePointsLeast (length ss)) (leb (length ss) splinePointsMost) (counts .0) in
+      let three = both (x && y && dx) dy (counts .1) in
       let two = both (x && y) dx (three .0) in
       let one = both x y (two .0) in
+      let rising : Rising ss = record { least = leb-true _ _ (bounds .0); most = leb-true _ _ (bounds .1); rises = rises-next 0 ss (all .1) } in
       record {
-        xs-count = eqb-true _ _ (one .0);
-        ys-count = eqb-true _ _ (one .1);
-        dxs-count = eqb-true _ _ (two .1);
-        dys-count = eqb-true _ _ (three .1);
+        x-axis = record { rising = rising; points = eqb-true _ _ (one .0); tangents = eqb-true _ _ (two .1) };
+        y-axis = record { rising = rising; points = eqb-true _ _ (one .1); tangents = eqb-true _ _ (three .1) };
+        largest = rises-most 0 ss (all .1);
       }
 
-  parts : splinePointsOk ss xs ys dxs dys ≡ true → (splineCountOk (length ss) ≡ true) × (countsAgree ss xs ys dxs dys ≡ true) × (risesStrictlyFrom 0 ss ≡ true)
-  unfolding splinePointsOk
-  parts e =
-      let outer = both (splineCountOk (length ss) && countsAgree ss xs ys dxs dys) (risesStrictlyFrom 0 ss) e in
-      let counts = both (splineCountOk (length ss)) (countsAgree ss xs ys dxs dys) (outer .0) in
-      (counts .0, counts .1, outer .1)
-
-  pub params-rise : splinePointsOk ss xs ys dxs dys ≡ true → risesStrictlyFrom 0 ss ≡ true
-  params-rise e = parts e .2
-
-  -- the two axes
-  pub x-axis : splinePointsOk ss xs ys dxs dys ≡ true → Axis ss xs dxs
-  x-axis e =
-      let p = parts e in
-      let a = agreeing-of (p .1) in
-      record { rising = rising-of ss (p .0) (p .2); points = a .xs-count; tangents = a .dxs-count }
-
-  pub y-axis : splinePointsOk ss xs ys dxs dys ≡ true → Axis ss ys dys
-  y-axis e =
-      let p = parts e in
-      let a = agreeing-of (p .1) in
-      record { rising = rising-of ss (p .0) (p .2); points = a .ys-count; tangents = a .dys-count }
-
   -- the points of both axes are on the grid
-  pub points-on-grid : (rangeOk xs ys && rangeOk dxs dys) ≡ true → (allOnGrid xs ≡ true) × (allOnGrid ys ≡ true)
+  pub points-on-grid : (rangeOk (s .xs) (s .ys) && rangeOk (s .dxs) (s .dys)) ≡ true → (allOnGrid (s .xs) ≡ true) × (allOnGrid (s .ys) ≡ true)
   unfolding rangeOk
-  points-on-grid e = both (allOnGrid xs) (allOnGrid ys) (both (rangeOk xs ys) (rangeOk dxs dys) e .0)
+  points-on-grid e = both (allOnGrid (s .xs)) (allOnGrid (s .ys)) (both (rangeOk (s .xs) (s .ys)) (rangeOk (s .dxs) (s .dys)) e .0)
 
--- nothing was refused
-pub record Accepted (inner : ℕ) (ss : List ℕ) (xs ys dxs dys : List ℤ) (knotPlaces xPlaces yPlaces : ℕ) : Type 0 where
-  pub points-ok : splinePointsOk ss xs ys dxs dys ≡ true
-  pub range-ok : (rangeOk xs ys && rangeOk dxs dys) ≡ true
-  pub x-whole : allWhole (pieces ss xs dxs) ≡ true
-  pub y-whole : allWhole (pieces ss ys dys) ≡ true
-  pub x-on-grid : allPiecesOnGrid (pieces ss xs dxs) ≡ true
-  pub y-on-grid : allPiecesOnGrid (pieces ss ys dys) ≡ true
-  pub room-ok : roomOk inner (pieces ss xs dxs) knotPlaces xPlaces yPlaces ≡ true
+-- none of 17, 7, 11, 18 applies
+pub record Joinable (s : SplinePoints) : Type 0 where
+  pub standing : Standing s
+  pub on-grid : (allOnGrid (s .xs) ≡ true) × (allOnGrid (s .ys) ≡ true)
+  pub whole : (allWhole (piecesX s) ≡ true) × (allWhole (piecesY s) ≡ true)
+  pub pieces-on-grid : (allPiecesOnGrid (piecesX s) ≡ true) × (allPiecesOnGrid (piecesY s) ≡ true)
 
-pub accepted-of : (inner : ℕ) (ss : List ℕ) (xs ys dxs dys : List ℤ) (knotPlaces xPlaces yPlaces : ℕ)
-    → joinRefusal inner ss xs ys dxs dys knotPlaces xPlaces yPlaces ≡ 0 → Accepted inner ss xs ys dxs dys knotPlaces xPlaces yPlaces
-unfolding joinRefusal
-accepted-of inner ss xs ys dxs dys knotPlaces xPlaces yPlaces e =
-    let after17 = unless-accepted (splinePointsOk ss xs ys dxs dys) 16 _ e in
-    let after7 = unless-accepted (rangeOk xs ys && rangeOk dxs dys) 6 _ (after17 .1) in
-    let after11 = unless-accepted (allWhole (pieces ss xs dxs) && allWhole (pieces ss ys dys)) 10 _ (after7 .1) in
-    let after18 = unless-accepted (allPiecesOnGrid (pieces ss xs dxs) && allPiecesOnGrid (pieces ss ys dys)) 17 _ (after11 .1) in
-    let after15 = unless-accepted (roomOk inner (pieces ss xs dxs) knotPlaces xPlaces yPlaces) 14 _ (after18 .1) in
-    let whole = both (allWhole (pieces ss xs dxs)) (allWhole (pieces ss ys dys)) (after11 .0) in
-    let within = both (allPiecesOnGrid (pieces ss xs dxs)) (allPiecesOnGrid (pieces ss ys dys)) (after18 .0) in
-    record {
-      points-ok = after17 .0;
-      range-ok = after7 .0;
-      x-whole = whole .0;
-      y-whole = whole .1;
-      x-on-grid = within .0;
-      y-on-grid = within .1;
-      room-ok = after15 .0;
-    }
+module _ (s : SplinePoints) (next : ℕ) where
+  pub joinable-of : joinableThen s next ≡ 0 → Joinable s
+  unfolding joinableThen
+  joinable-of e =
+      let after17 = unless-accepted (splinePointsOk s) 16 _ e in
+      let after7 = unless-accepted (rangeOk (s .xs) (s .ys) && rangeOk (s .dxs) (s .dys)) 6 _ (after17 .1) in
+      let after11 = unless-accepted (allWhole (piecesX s) && allWhole (piecesY s)) 10 _ (after7 .1) in
+      let after18 = unless-accepted (allPiecesOnGrid (piecesX s) && allPiecesOnGrid (piecesY s)) 17 next (after11 .1) in
+      record {
+        standing = standing-of s (after17 .0);
+        on-grid = points-on-grid s (after7 .0);
+        whole = both (allWhole (piecesX s)) (allWhole (piecesY s)) (after11 .0);
+        pieces-on-grid = both (allPiecesOnGrid (piecesX s)) (allPiecesOnGrid (piecesY s)) (after18 .0);
+      }
+
+  split : joinableThen s next ≡ cond (eqb (joinableThen s 0) 0) next (joinableThen s 0)
+  unfolding joinableThen
+  split =
+      unless-split (splinePointsOk s) 16 next _ _
+      (unless-split (rangeOk (s .xs) (s .ys) && rangeOk (s .dxs) (s .dys)) 6 next _ _
+      (unless-split (allWhole (piecesX s) && allWhole (piecesY s)) 10 next _ _
+      (unless-split (allPiecesOnGrid (piecesX s) && allPiecesOnGrid (piecesY s)) 17 next next 0 refl)))
+
+  -- what is judged next is answered exactly where the spline points are joinable
+  pub joinable-refused : {number : ℕ} → number ≡ joinableThen s 0 → (number ≡ 0 → ⊥) → joinableThen s next ≡ number
+  joinable-refused {number} e h = split ∙ rw (← e, ne-eqb number 0 h)
+
+  pub joinable-passed : joinableThen s 0 ≡ 0 → joinableThen s next ≡ next
+  joinable-passed e = split ∙ rw e

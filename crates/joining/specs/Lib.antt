@@ -1,2 +1,4 @@
--- What the joining call answers.
+-- Spline points, and what the joining call answers.
+pub mod SplinePoints
 pub mod Answer
+pub mod Sentences

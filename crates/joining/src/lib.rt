@@ -1,14 +1,12 @@
-// Joining spline points into a B-spline of degree 3.
-mod counts;
+// Joining spline points into a B-spline of degree 3 ("Joining spline points").
+mod spline_points;
 
-ghost use mathlib.Core.Bool.{_&&_};
 ghost use mathlib.Core.Path.{_≡_};
-ghost use Prim.Native.Nat.{_+_, _-_, _*_, _≤_};
-ghost use lib.Dec.{leb};
-ghost use lib.ListN.{length};
-ghost use Rattle.joining.specs.Answer.{joinRefusal, joinAnswer, JoinedOver};
-ghost use Rattle.joined_curve.specs.Curve.{innerKnots, joinedPoints};
-ghost use Rattle.spline_pieces.specs.Pieces.{pieces};
+ghost use Rattle.refusal.specs.Numbers.{accepted};
+ghost use Rattle.curve.specs.Lists.{lists};
+ghost use Rattle.joined_curve.specs.Curve.{innerKnots};
+ghost use Rattle.joining.specs.SplinePoints.{splinePoints};
+ghost use Rattle.joining.specs.Answer.{joinableThen, JoinOutcome};
 
 // How many points the joined curve has, or the number of refusal.
 pub enum JoinAnswer {
@@ -16,50 +14,25 @@ pub enum JoinAnswer {
     Refused(u32),
 }
 
-// Whether three lists have the places that `count` spline points need.
-fn room_ok(count: usize, knot_places: usize, x_places: usize, y_places: usize) -> bool
-    requires { ⌜ (2 ≤ count) × (count ≤ 342) ⌝ }
-    ensures answer { λ r. ⌜ r ≡ (leb (3 * count + 2) «knot_places» && leb (3 * count - 2) «x_places» && leb (3 * count - 2) «y_places») ⌝ }
+// 0, or the first of 17, 7, 11, 18 that applies.
+fn joinable_number(params: &[u16], xs: &[i32], ys: &[i32], dxs: &[i32], dys: &[i32]) -> u32
+    ensures answer { λ r. ⌜ r
+        ≡ joinableThen (splinePoints (now (params .entry)) (now (xs .entry)) (now (ys .entry)) (now (dxs .entry)) (now (dys .entry))) accepted ⌝ }
 {
-    if knot_places < 3 * count + 2 {
-        return false;
-    }
-    let points = 3 * count - 2;
-    if x_places < points {
-        return false;
-    }
-    points <= y_places
-}
-
-// The number of refusal, or 0, where the lent lists have so many places.
-fn join_refusal(
-    params: &[u16],
-    px: &[i32],
-    py: &[i32],
-    tx: &[i32],
-    ty: &[i32],
-    knot_places: usize,
-    x_places: usize,
-    y_places: usize,
-) -> u32
-    ensures answer { λ r. ⌜ r ≡ joinRefusal innerKnots (now (params .entry)) (now (px .entry)) (now (py .entry)) (now (tx .entry)) (now (ty .entry)) «knot_places» «x_places» «y_places» ⌝ }
-{
-    if !counts::spline_points_ok(params, px, py, tx, ty) {
+    if !spline_points::spline_points_ok(params, xs, ys, dxs, dys) {
         return refusal::SPLINE_POINTS;
     }
-    if !counts::all_in_range(px, py, tx, ty) {
+    if !grid::range_ok(xs, ys) {
         return refusal::RANGE;
     }
-    let whole = spline_pieces::all_whole(params, tx, ty);
-    let on_grid = spline_pieces::all_pieces_on_grid(params, px, py, tx, ty);
-    if !whole {
+    if !grid::range_ok(dxs, dys) {
+        return refusal::RANGE;
+    }
+    if !spline_pieces::all_whole(params, dxs, dys) {
         return refusal::NOT_WHOLE;
     }
-    if !on_grid {
+    if !spline_pieces::all_pieces_on_grid(params, xs, ys, dxs, dys) {
         return refusal::JOINED_RANGE;
-    }
-    if !room_ok(params.len(), knot_places, x_places, y_places) {
-        return refusal::ROOM;
     }
     refusal::ACCEPTED
 }
@@ -67,32 +40,37 @@ fn join_refusal(
 // The curve of degree 3 through the points, the points where pieces meet among its control points.
 pub fn join_through_points(
     params: &[u16],
-    px: &[i32],
-    py: &[i32],
-    tx: &[i32],
-    ty: &[i32],
+    xs: &[i32],
+    ys: &[i32],
+    dxs: &[i32],
+    dys: &[i32],
     out_knots: &mut [u16],
     out_xs: &mut [i32],
     out_ys: &mut [i32],
 ) -> JoinAnswer
-    ensures answer { λ r. ⌜ r ≡ joinAnswer (joinRefusal innerKnots (now (params .entry)) (now (px .entry)) (now (py .entry)) (now (tx .entry)) (now (ty .entry)) (length (now («out_knots» .entry))) (length (now («out_xs» .entry))) (length (now («out_ys» .entry)))) (length (joinedPoints innerKnots (pieces (now (params .entry)) (now (px .entry)) (now (tx .entry))))) ⌝ }
-    ensures result { λ r. ⌜ JoinedOver innerKnots (joinRefusal innerKnots (now (params .entry)) (now (px .entry)) (now (py .entry)) (now (tx .entry)) (now (ty .entry)) (length (now («out_knots» .entry))) (length (now («out_xs» .entry))) (length (now («out_ys» .entry)))) (now (params .entry)) (now (px .entry)) (now (py .entry)) (now (tx .entry)) (now (ty .entry)) (now («out_knots» .entry)) (now («out_knots» .exit)) (now («out_xs» .entry)) (now («out_xs» .exit)) (now («out_ys» .entry)) (now («out_ys» .exit)) ⌝ }
+    ensures answer { λ r. ⌜ JoinOutcome innerKnots
+        (splinePoints (now (params .entry)) (now (xs .entry)) (now (ys .entry)) (now (dxs .entry)) (now (dys .entry)))
+        (lists (now («out_knots» .entry)) (now («out_xs» .entry)) (now («out_ys» .entry))) r
+        (lists (now («out_knots» .exit)) (now («out_xs» .exit)) (now («out_ys» .exit))) ⌝ }
 {
-    let number = join_refusal(
-        params,
-        px,
-        py,
-        tx,
-        ty,
-        out_knots.len(),
-        out_xs.len(),
-        out_ys.len(),
-    );
+    let number = joinable_number(params, xs, ys, dxs, dys);
     if number != refusal::ACCEPTED {
         return JoinAnswer::Refused(number);
     }
+    // Three points for each piece and the last end; and four knots more than points.
+    let points = 3 * params.len() - 2;
+    if !curve::room_for(
+        points + 4,
+        points,
+        points,
+        out_knots.len(),
+        out_xs.len(),
+        out_ys.len(),
+    ) {
+        return JoinAnswer::Refused(refusal::ROOM);
+    }
     joined_curve::write_knots(params, out_knots);
-    joined_curve::write_points(params, px, tx, out_xs);
-    joined_curve::write_points(params, py, ty, out_ys);
-    JoinAnswer::Joined(3 * params.len() - 2)
+    joined_curve::write_points(params, xs, dxs, out_xs);
+    joined_curve::write_points(params, ys, dys, out_ys);
+    JoinAnswer::Joined(points)
 }

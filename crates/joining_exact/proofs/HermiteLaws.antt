@@ -2,7 +2,7 @@
 use mathlib.Core.Bool.{true}
 use mathlib.Core.List.{List, [], _∷_}
 use mathlib.Core.Path.{_≡_, refl, sym, ap, ap₂, _∙_}
-use Prim.Native.Nat.{ℕ, zero, suc, _+_, _-_, _*_, _≤_, _<_}
+use Prim.Native.Nat.{ℕ, suc, _+_, _-_, _*_, _≤_, _<_}
 use native.Mathlib.Nat.{le-of-lt}
 use native.Mathlib.Omega.{arith}
 use lib.IntN.{ℤ, pos}
@@ -12,7 +12,7 @@ use Rattle.algebra.specs.OrderedField.{OrderedField, Below}
 use Rattle.algebra.specs.Ring.{fieldRing, numeral}
 use Rattle.algebra.proofs.Expressions.{var, lit, expressions}
 use Rattle.algebra.proofs.Solver.{ring}
-use Rattle.fractions.specs.Fraction.{whole, wholeN, over, fractionOperations}
+use Rattle.fractions.specs.Fraction.{whole, wholeN}
 use Rattle.fractions.specs.Order.{Equals}
 use Rattle.fractions.proofs.Rational.{class, rational, rationalOperations, equals-of-class}
 use Rattle.fractions.proofs.ClassLaws.{class-sum, class-product, class-negation, class-reciprocal, wholeN-below}
@@ -21,15 +21,13 @@ use Rattle.splines.proofs.SpanLaws.{divisor-inverse}
 use Rattle.splines.proofs.HermiteLaws.{piece-is-hermite}
 use Rattle.exact.specs.ExactPoint.{exactCoordinate}
 use Rattle.exact.proofs.ExactLaws.{rationalKnot, rationalCoordinate, rationalParameter, exact-class}
-use Rattle.grid.proofs.OrderLaws.{both}
-use Rattle.spline_pieces.specs.Pieces.{thirdWhole, pieceOf, pieceAt, pieces, allWhole}
+use Rattle.spline_pieces.specs.Pieces.{pieceOf, pieceAt, pieces, allWhole}
 use Rattle.spline_pieces.specs.Standing.{Rising}
-use Rattle.spline_pieces.proofs.PieceLaws.{whole-each}
-use Rattle.joined_curve.specs.Curve.{innerKnots, joinedKnots, joinedPoints}
+use Rattle.spline_pieces.proofs.SentenceLaws.{whole-judged}
+use Rattle.joined_curve.specs.Curve.{innerKnots, joinedPoints}
 use Rattle.joined_curve.proofs.CurveLaws.{points-length}
 use Rattle.joining_exact.specs.HermitePoint.{hermiteCoordinate}
-use Rattle.joining_exact.proofs.KnotLaws.{knot-at}
-use Rattle.joining_exact.proofs.PointLaws.{b1-is, b2-is, point-is}
+use Rattle.joined_curve.proofs.PointLaws.{leaving-is, arriving-is, point-is}
 use Rattle.joining_exact.proofs.ThirdLaws.{leaving-third, arriving-third}
 
 -- the cubic on pairs of whole numbers and the cubic in rational numbers
@@ -40,12 +38,6 @@ pub hermite-class : (ss : List ℕ) (ps ds : List ℤ) (i p q : ℕ)
     (class (whole (getD ds i (pos 0)))) (class (whole (getD ds (suc i) (pos 0)))) (rationalParameter p q)
 unfolding hermiteCoordinate numeral
 hermite-class ss ps ds i p q = simp (class-sum, class-product, class-negation, class-reciprocal)
-
--- the two thirds of a whole piece
-wholes : (ss : List ℕ) (ps ds : List ℤ) (i : ℕ) → pieceAt ss ps ds i .whole ≡ true
-    → (thirdWhole (getD ss (suc i) 0 - getD ss i 0) (getD ds i (pos 0)) ≡ true) × (thirdWhole (getD ss (suc i) 0 - getD ss i 0) (getD ds (suc i) (pos 0)) ≡ true)
-unfolding pieceAt pieceOf
-wholes ss ps ds i e = both _ _ e
 
 -- `ts` are knots that are s_i and s_{i+1} round the span of piece i; x and y share them
 module _ (ss : List ℕ) (ps ds : List ℤ) (rising : Rising ss) (all : allWhole (pieces ss ps ds) ≡ true) (i : ℕ) (inside : i + 1 < length ss) (p q : ℕ)
@@ -77,22 +69,22 @@ module _ (ss : List ℕ) (ps ds : List ℤ) (rising : Rising ss) (all : allWhole
       let here : 3 * i + 3 ≡ 3 * suc i = omega arith in
       ap (λ j. rationalCoordinate us j) here ∙ ap (λ z. class (whole z)) (point-is ss ps ds (rising .least) (suc i) (omega arith))
 
-  second-is : rationalCoordinate us (3 * i + 3 - 2) ≡ class (whole (pieceAt ss ps ds i .b1))
+  second-is : rationalCoordinate us (3 * i + 3 - 2) ≡ class (whole (pieceAt ss ps ds i .leaving))
   second-is =
       let here : 3 * i + 3 - 2 ≡ 3 * i + 1 = omega arith in
-      ap (λ j. rationalCoordinate us j) here ∙ ap (λ z. class (whole z)) (b1-is ss ps ds (rising .least) i inside)
+      ap (λ j. rationalCoordinate us j) here ∙ ap (λ z. class (whole z)) (leaving-is ss ps ds (rising .least) i inside)
 
-  third-is : rationalCoordinate us (3 * i + 3 - 1) ≡ class (whole (pieceAt ss ps ds i .b2))
+  third-is : rationalCoordinate us (3 * i + 3 - 1) ≡ class (whole (pieceAt ss ps ds i .arriving))
   third-is =
       let here : 3 * i + 3 - 1 ≡ 3 * i + 2 = omega arith in
-      ap (λ j. rationalCoordinate us j) here ∙ ap (λ z. class (whole z)) (b2-is ss ps ds (rising .least) i inside)
+      ap (λ j. rationalCoordinate us j) here ∙ ap (λ z. class (whole z)) (arriving-is ss ps ds (rising .least) i inside)
 
   pub span-is-hermite : Equals (exactCoordinate ts us 3 (3 * i + 3) p q) (hermiteCoordinate ss ps ds i p q)
   unfolding pieceAt pieceOf
   span-is-hermite =
       let low = getD ss i 0 in
       let high = getD ss (suc i) 0 in
-      let thirds = wholes ss ps ds i (whole-each ss ps ds all i inside) in
+      let thirds = whole-judged ss ps ds .passing all i (omega arith) in
       equals-of-class (exactCoordinate ts us 3 (3 * i + 3) p q) (hermiteCoordinate ss ps ds i p q)
       (exact-class ts us 3 (3 * i + 3) p q
       ∙ piece-is-hermite rational (rationalKnot ts) (rationalCoordinate us) (3 * i + 3) (class (wholeN low)) (class (wholeN high)) (rationalParameter p q)

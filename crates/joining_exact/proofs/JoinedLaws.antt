@@ -1,9 +1,9 @@
 -- The joined curve is the Hermite cubic of its spline points at every fraction: `join-is-hermite`. Left of an interval's right end the span
--- rule gives the interval's own span; at the right end it gives the next one, whose cubic starts where this one ends.
+-- rule gives the interval's own span; at the right end it gives the next one, whose cubic starts where this one ends. So it meets every spline point.
 use mathlib.Core.Bool.{true}
 use mathlib.Core.List.{List}
 use mathlib.Core.Logic.{_⊎_, inl, inr}
-use mathlib.Core.Path.{_≡_, refl, sym, ap, _∙_}
+use mathlib.Core.Path.{_≡_, sym, ap, _∙_}
 use Prim.Native.Nat.{ℕ, zero, suc, _+_, _-_, _*_, _≤_, _<_}
 use native.Mathlib.Nat.{le-antisymm, le-trans, mul-le-mul-right}
 use native.Mathlib.Decide.{decLe}
@@ -21,13 +21,14 @@ use Rattle.exact.specs.ExactCurve.{exactAt}
 use Rattle.exact.proofs.ExactLaws.{rationalParameter}
 use Rattle.spline_pieces.specs.Pieces.{pieces, allWhole}
 use Rattle.spline_pieces.specs.Standing.{Rising}
-use Rattle.joined_curve.specs.Curve.{innerKnots, joinedKnots, joinedPoints}
+use Rattle.joined_curve.specs.Curve.{innerKnots, joinedPoints}
 use Rattle.joined_curve.proofs.CurveLaws.{points-length, knots-length}
-use Rattle.joining.proofs.StandingLaws.{accepted-of}
+use Rattle.joining.specs.Answer.{joinedLists}
 use Rattle.joining_exact.specs.HermitePoint.{hermiteCoordinate}
-use Rattle.joining_exact.specs.JoinedCurve.{JoinPasses, HermiteOnAxis, JoinIsHermite}
-use Rattle.joining_exact.proofs.KnotLaws.{knot-at}
-use Rattle.joining_exact.proofs.PassesLaws.{joined-rising, joined-checked, joined-passes}
+use Rattle.joining_exact.specs.JoinedCurve.{JoinPasses, HermiteOnAxis, JoinIsHermite, JoinMeetsPoints, JoinHasEntries}
+use Rattle.joined_curve.proofs.KnotLaws.{knot-at}
+use Rattle.joined_curve.proofs.SentenceLaws.{joined-knots, joined-points}
+use Rattle.joining_exact.proofs.PassesLaws.{joined-joinable, joined-rising, joined-checked, joined-passes}
 use Rattle.joining_exact.proofs.HermiteLaws.{hermite-class, span-is-hermite, hermite-start, hermite-end}
 
 -- a parameter that is the whole number s
@@ -133,12 +134,61 @@ pub join-passes : JoinPasses
 join-passes = joined-passes
 
 pub join-is-hermite : JoinIsHermite
-join-is-hermite ss xs ys dxs dys knotPlaces xPlaces yPlaces e =
-    let facts = accepted-of innerKnots ss xs ys dxs dys knotPlaces xPlaces yPlaces e in
-    let rising = joined-rising ss xs ys dxs dys knotPlaces xPlaces yPlaces e in
-    let checked = joined-checked ss xs ys dxs dys knotPlaces xPlaces yPlaces e in
-    let knots = knot-at ss xs dxs (rising .least) in
-    let count = knots-length ss xs dxs (rising .least) in (
-      axis-is-hermite ss xs dxs rising (facts .x-whole) (joinedKnots innerKnots (pieces ss xs dxs)) count knots (checked .rising) (checked .domain),
-      axis-is-hermite ss ys dys rising (facts .y-whole) (joinedKnots innerKnots (pieces ss xs dxs)) count knots (checked .rising) (rw (checked .same) at (checked .domain)),
+join-is-hermite s lent e =
+    let ss = s .params in
+    let whole = joined-joinable s lent e .whole in
+    let rising = joined-rising s lent e in
+    let checked = joined-checked s lent e in
+    let knots = knot-at ss (s .xs) (s .dxs) (rising .least) in
+    let count = knots-length ss (s .xs) (s .dxs) (rising .least) in (
+      axis-is-hermite ss (s .xs) (s .dxs) rising (whole .0) (joinedLists innerKnots s .knots) count knots (checked .rising) (checked .domain),
+      axis-is-hermite ss (s .ys) (s .dys) rising (whole .1) (joinedLists innerKnots s .knots) count knots (checked .rising)
+          (rw (← (checked .sizes .as-many)) at (checked .domain)),
+    )
+
+-- a curve that is the Hermite cubic on every interval meets the points: each but the last where its interval starts, the last where its interval ends
+module _ (ts ss : List ℕ) (us ps ds : List ℤ) (rising : Rising ss) (cubic : HermiteOnAxis ts us ss ps ds) where
+  -- the cubic of interval i at a whole parameter s, by its value there
+  at-whole : (i s : ℕ) (z : ℤ) → suc i < length ss → getD ss i 0 ≤ s → s ≤ getD ss (suc i) 0
+      → hermite rationalOperations (class (wholeN (getD ss i 0))) (class (wholeN (getD ss (suc i) 0)))
+      (class (whole (getD ps i (pos 0)))) (class (whole (getD ps (suc i) (pos 0))))
+      (class (whole (getD ds i (pos 0)))) (class (whole (getD ds (suc i) (pos 0)))) (class (wholeN s))
+      ≡ class (whole z)
+      → Equals (exactAt 3 ts us s 1) (whole z)
+  at-whole i s z inside from to value =
+      let parameter : s ≡ s * 1 = omega arith in
+      let there = cubic i s 1 inside (omega arith) (omega arith) (omega arith) in
+      equals-of-class (exactAt 3 ts us s 1) (whole z)
+      (class-of-equals {a = exactAt 3 ts us s 1} {b = hermiteCoordinate ss ps ds i s 1} there
+      ∙ hermite-class ss ps ds i s 1
+      ∙ rw (whole-parameter s s 1 (omega arith) parameter) value)
+
+  meets-points : (i : ℕ) → i < length ss → Equals (exactAt 3 ts us (getD ss i 0) 1) (whole (getD ps i (pos 0)))
+  meets-points i h = by i h (decLe (length ss) (suc i))
+    where
+      by : (i : ℕ) → i < length ss → Dec (length ss ≤ suc i) → Equals (exactAt 3 ts us (getD ss i 0) 1) (whole (getD ps i (pos 0)))
+      by i h (no more) =
+          at-whole i (getD ss i 0) (getD ps i (pos 0)) (omega arith) (omega arith) (omega (arith, rising .rises i (omega arith)))
+          (hermite-start rational _ _ _ _ _ _)
+      by zero h (yes end) = absurd (omega (arith, rising .least))
+      by (suc k) h (yes end) =
+          let below = rising .rises k h in
+          at-whole k (getD ss (suc k) 0) (getD ps (suc k) (pos 0)) h (omega arith) (omega arith)
+          (hermite-end rational _ _ _ _ _ _ (wholeN-below (getD ss k 0) (getD ss (suc k) 0) .0 below))
+
+pub join-meets-points : JoinMeetsPoints
+join-meets-points s lent e i h =
+    let rising = joined-rising s lent e in
+    let cubics = join-is-hermite s lent e in (
+      meets-points (joinedLists innerKnots s .knots) (s .params) (joinedLists innerKnots s .xs) (s .xs) (s .dxs) rising (cubics .0) i h,
+      meets-points (joinedLists innerKnots s .knots) (s .params) (joinedLists innerKnots s .ys) (s .ys) (s .dys) rising (cubics .1) i h,
+    )
+
+pub join-has-entries : JoinHasEntries
+join-has-entries s lent e =
+    let some = joined-rising s lent e .least in
+    let whole = joined-joinable s lent e .whole in (
+      joined-knots (s .params) (s .xs) (s .dxs) some,
+      joined-points (s .params) (s .xs) (s .dxs) some (whole .0),
+      joined-points (s .params) (s .ys) (s .dys) some (whole .1),
     )

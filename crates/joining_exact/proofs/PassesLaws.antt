@@ -1,50 +1,32 @@
 -- The joined curve passes the check: `joined-passes`; so it has the facts of a checked curve: `joined-checked`.
-use mathlib.Core.Bool.{true, _&&_}
-use mathlib.Core.List.{List, [], _∷_}
+use mathlib.Core.Bool.{true}
+use mathlib.Core.List.{List}
 use mathlib.Core.Path.{_≡_, refl, sym, ap, _∙_}
 use Prim.Native.Nat.{ℕ, zero, suc, _+_, _-_, _*_, _≤_, _<_}
 use native.Mathlib.Nat.{lt-trans}
 use native.Mathlib.Decide.{decLe}
 use native.Mathlib.Omega.{arith}
-use lib.IntN.{ℤ, pos}
+use lib.IntN.{ℤ}
 use lib.ListN.{length, getD}
-use Rattle.grid.specs.Limits.{knotMost}
-use Rattle.grid.specs.Rows.{onGrid, allOnGrid, firstKnot, lastKnot, knotOrderOk}
+use Rattle.curve.specs.Lists.{Lists}
+use Rattle.curve.specs.HandingOver.{roomNumber}
+use Rattle.grid.specs.Rows.{firstKnot, lastKnot, knotOrderOk}
 use Rattle.grid.specs.Check.{Passes}
-use Rattle.grid.proofs.OrderLaws.{both}
 use Rattle.checked.specs.Checked.{Checked}
-use Rattle.checked.proofs.RisingLaws.{order-rising, order-largest}
+use Rattle.checked.proofs.RisingLaws.{order-judged}
 use Rattle.checked.proofs.GridLaws.{grid-each}
 use Rattle.checked.proofs.CheckedLaws.{passes-of-checked}
-use Rattle.spline_pieces.specs.Pieces.{Piece, pieces, pieceOnGrid, allPiecesOnGrid}
+use Rattle.spline_pieces.specs.Pieces.{pieces}
 use Rattle.spline_pieces.specs.Standing.{Rising}
-use Rattle.spline_pieces.proofs.GridLaws.{allOnGrid-at, inner-on-grid}
-use Rattle.spline_pieces.proofs.PieceLaws.{piecesOn, pieces-all}
 use Rattle.joined_curve.specs.Curve.{innerKnots, joinedKnots, joinedPoints}
-use Rattle.joined_curve.proofs.CurveLaws.{threes, points-are, points-length, knots-length}
-use Rattle.joining.specs.Answer.{joinRefusal, risesStrictlyFrom}
-use Rattle.joining.proofs.RisingLaws.{rises-most}
-use Rattle.joining.proofs.StandingLaws.{Accepted, accepted-of, x-axis, params-rise, points-on-grid}
-use Rattle.joining_exact.proofs.KnotLaws.{knot-at, knot-first, knot-last}
+use Rattle.joined_curve.proofs.CurveLaws.{points-length, knots-length}
+use Rattle.joining.specs.SplinePoints.{SplinePoints}
+use Rattle.joining.specs.Answer.{joinedLists, joinNumber}
+use Rattle.joining.proofs.StandingLaws.{Joinable, joinable-of}
+use Rattle.joined_curve.proofs.KnotLaws.{knot-at, knot-first, knot-last}
+use Rattle.joined_curve.proofs.SentenceLaws.{joined-on-grid}
 use Rattle.joining_exact.proofs.OrderLaws.{knots-rise}
 use Rattle.joining_exact.proofs.RepeatLaws.{repeats-outer, repeats-inner}
-
--- pieces on the grid have their points on it
-threes-on-grid : (l : List Piece) → allPiecesOnGrid l ≡ true → allOnGrid (threes l) ≡ true
-unfolding allPiecesOnGrid allOnGrid threes pieceOnGrid
-threes-on-grid [] e = refl
-threes-on-grid (piece ∷ l) e =
-    let split = both (pieceOnGrid piece) (allPiecesOnGrid l) e in
-    let inner = inner-on-grid piece (split .0) in
-    let end = both (onGrid (piece .b0) && onGrid (piece .b1) && onGrid (piece .b2)) (onGrid (piece .b3)) (split .0) .1 in
-    rw (inner .0, inner .1, end) (threes-on-grid l (split .1))
-
-module _ (ss : List ℕ) (ps ds : List ℤ) (some : 2 ≤ length ss) where
-  joined-on-grid : allOnGrid ps ≡ true → allPiecesOnGrid (pieces ss ps ds) ≡ true → allOnGrid (joinedPoints innerKnots (pieces ss ps ds)) ≡ true
-  unfolding allOnGrid
-  joined-on-grid ends e =
-      let rest = threes-on-grid (piecesOn ss ps ds 0) (rw (pieces-all ss ps ds) at e) in
-      rw (points-are ss ps ds some, allOnGrid-at ps ends 0) rest
 
 -- the first parameter is below every later one
 first-below : (ss : List ℕ) → Rising ss → (k : ℕ) → suc k < length ss → getD ss 0 0 < getD ss (suc k) 0
@@ -88,28 +70,28 @@ module _ (ss : List ℕ) (ps ds : List ℤ) (rising : Rising ss) where
       let end : length ss - 1 ≡ suc (length ss - 2) = omega (arith, rising .least) in
       rw (low, high, end) (first-below ss rising (length ss - 2) (omega (arith, rising .least)))
 
-module _ (ss : List ℕ) (xs ys dxs dys : List ℤ) (knotPlaces xPlaces yPlaces : ℕ)
-    (accepted : joinRefusal innerKnots ss xs ys dxs dys knotPlaces xPlaces yPlaces ≡ 0) where
-  facts : Accepted innerKnots ss xs ys dxs dys knotPlaces xPlaces yPlaces
-  facts = accepted-of innerKnots ss xs ys dxs dys knotPlaces xPlaces yPlaces accepted
+module _ (s : SplinePoints) (lent : Lists) (accepted : joinNumber innerKnots s lent ≡ 0) where
+  pub joined-joinable : Joinable s
+  joined-joinable = joinable-of s (roomNumber (joinedLists innerKnots s) lent) accepted
 
-  pub joined-rising : Rising ss
-  joined-rising = x-axis ss xs ys dxs dys (facts .points-ok) .rising
+  pub joined-rising : Rising (s .params)
+  joined-rising = joined-joinable .standing .x-axis .rising
 
-  most : (i : ℕ) → getD ss i 0 ≤ knotMost
-  most = rises-most 0 ss (params-rise ss xs ys dxs dys (facts .points-ok))
+  ordered : knotOrderOk (joinedLists innerKnots s .knots) ≡ true
+  ordered = knots-rise (s .params) joined-rising (joined-joinable .standing .largest) (s .xs) (s .dxs)
 
-  ordered : knotOrderOk (ts ss xs dxs joined-rising) ≡ true
-  ordered = knots-rise ss joined-rising most xs dxs
-
-  pub joined-checked : Checked 3 (joinedKnots innerKnots (pieces ss xs dxs)) (joinedPoints innerKnots (pieces ss xs dxs)) (joinedPoints innerKnots (pieces ss ys dys))
+  pub joined-checked : Checked 3 (joinedLists innerKnots s .knots) (joinedLists innerKnots s .xs) (joinedLists innerKnots s .ys)
   unfolding knotOrderOk
   joined-checked =
+      let ss = s .params in
+      let xs = s .xs in
+      let dxs = s .dxs in
       let some = joined-rising .least in
       let us = points-length ss xs dxs some in
-      let vs = points-length ss ys dys some in
+      let vs = points-length ss (s .ys) (s .dys) some in
       let ks = knots-length ss xs dxs some in
-      let grid = points-on-grid ss xs ys dxs dys (facts .range-ok) in
+      let grid = joined-joinable .on-grid in
+      let pieces-on-grid = joined-joinable .pieces-on-grid in
       record {
         sizes = record {
           degree-least = omega arith;
@@ -119,17 +101,16 @@ module _ (ss : List ℕ) (xs ys dxs dys : List ℤ) (knotPlaces xPlaces yPlaces 
           most = omega (arith, us, joined-rising .most);
           knots = omega (arith, us, ks, some);
         };
-        rising = order-rising (joinedKnots innerKnots (pieces ss xs dxs)) ordered;
-        largest = order-largest 0 (joinedKnots innerKnots (pieces ss xs dxs)) ordered;
+        rising = order-judged (joinedLists innerKnots s .knots) .passing ordered .0;
+        largest = order-judged (joinedLists innerKnots s .knots) .passing ordered .1;
         firsts = starts ss xs dxs joined-rising;
         lasts = λ a from to. ends ss xs dxs joined-rising a (omega (arith, us)) (omega (arith, ks)) ∙ sym (last-is ss xs dxs joined-rising);
         domain = domain-is ss xs dxs joined-rising;
         inner = λ v first last. repeats-inner ss joined-rising v xs dxs (λ e. first (e ∙ sym (first-is ss xs dxs joined-rising))) (λ e. last (e ∙ sym (last-is ss xs dxs joined-rising)));
         outer = λ v. repeats-outer ss joined-rising v xs dxs;
-        gridX = grid-each (joinedPoints innerKnots (pieces ss xs dxs)) (joined-on-grid ss xs dxs some (grid .0) (facts .x-on-grid));
-        gridY = grid-each (joinedPoints innerKnots (pieces ss ys dys)) (joined-on-grid ss ys dys some (grid .1) (facts .y-on-grid));
+        gridX = grid-each (joinedLists innerKnots s .xs) (sym (joined-on-grid ss xs dxs (grid .0) some) ∙ pieces-on-grid .0);
+        gridY = grid-each (joinedLists innerKnots s .ys) (sym (joined-on-grid ss (s .ys) (s .dys) (grid .1) some) ∙ pieces-on-grid .1);
       }
 
-  pub joined-passes : Passes 3 (joinedKnots innerKnots (pieces ss xs dxs)) (joinedPoints innerKnots (pieces ss xs dxs)) (joinedPoints innerKnots (pieces ss ys dys))
-  joined-passes =
-      passes-of-checked 3 (joinedKnots innerKnots (pieces ss xs dxs)) (joinedPoints innerKnots (pieces ss xs dxs)) (joinedPoints innerKnots (pieces ss ys dys)) joined-checked
+  pub joined-passes : Passes 3 (joinedLists innerKnots s .knots) (joinedLists innerKnots s .xs) (joinedLists innerKnots s .ys)
+  joined-passes = passes-of-checked 3 (joinedLists innerKnots s .knots) (joinedLists innerKnots s .xs) (joinedLists innerKnots s .ys) joined-checked

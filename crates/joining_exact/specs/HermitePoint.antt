@@ -1,4 +1,4 @@
--- The Hermite cubic from points and tangents alone (heading "Joining spline points"; F1 to F4 of source document 000), on pairs of whole numbers.
+-- The Hermite cubic from points and tangents alone (heading "Joining spline points"), on pairs of whole numbers.
 -- `ss` are the parameters, `ps` the points and `ds` the tangents of one axis, i the interval from s_i to s_{i+1}, p/q a parameter of it, q above zero.
 use mathlib.Core.List.{List}
 use Prim.Native.Nat.{ℕ, suc}

@@ -2,23 +2,25 @@
 use mathlib.Core.List.{List}
 use mathlib.Core.Path.{_≡_}
 use Prim.Native.Nat.{ℕ, suc, _*_, _≤_, _<_}
-use lib.IntN.{ℤ}
+use lib.IntN.{ℤ, pos}
 use lib.ListN.{length, getD}
 use Rattle.refusal.specs.Numbers.{accepted}
+use Rattle.curve.specs.Lists.{Lists}
 use Rattle.grid.specs.Check.{Passes}
+use Rattle.fractions.specs.Fraction.{whole}
 use Rattle.fractions.specs.Order.{Equals}
 use Rattle.exact.specs.ExactCurve.{exactAt}
-use Rattle.spline_pieces.specs.Pieces.{pieces}
-use Rattle.joined_curve.specs.Curve.{innerKnots, joinedKnots, joinedPoints}
-use Rattle.joining.specs.Answer.{joinRefusal}
+use Rattle.joined_curve.specs.Curve.{innerKnots}
+use Rattle.joined_curve.specs.Sentences.{KnotsOf, PointsOf}
+use Rattle.joining.specs.SplinePoints.{SplinePoints}
+use Rattle.joining.specs.Answer.{joinedLists, joinNumber}
 use Rattle.joining_exact.specs.HermitePoint.{hermiteCoordinate}
 
--- whenever joining is not refused, the curve that the call's contract names passes the check
+-- whenever joining is not refused, the curve that the call hands out passes the check
 abbrev pub JoinPasses : Type 0
 JoinPasses =
-    (ss : List ℕ) (xs ys dxs dys : List ℤ) (knotPlaces xPlaces yPlaces : ℕ)
-    → joinRefusal innerKnots ss xs ys dxs dys knotPlaces xPlaces yPlaces ≡ accepted
-    → Passes 3 (joinedKnots innerKnots (pieces ss xs dxs)) (joinedPoints innerKnots (pieces ss xs dxs)) (joinedPoints innerKnots (pieces ss ys dys))
+    (s : SplinePoints) (lent : Lists) → joinNumber innerKnots s lent ≡ accepted
+    → Passes 3 (joinedLists innerKnots s .knots) (joinedLists innerKnots s .xs) (joinedLists innerKnots s .ys)
 
 -- on one axis: the exact curve of knots ts and coordinates us is the Hermite cubic at every fraction p/q of every interval, both ends included
 abbrev pub HermiteOnAxis : List ℕ → List ℤ → List ℕ → List ℤ → List ℤ → Type 0
@@ -26,10 +28,24 @@ HermiteOnAxis ts us ss ps ds =
     (i p q : ℕ) → suc i < length ss → 0 < q → getD ss i 0 * q ≤ p → p ≤ getD ss (suc i) 0 * q
     → Equals (exactAt 3 ts us p q) (hermiteCoordinate ss ps ds i p q)
 
--- whenever joining is not refused, both axes of the curve that the call's contract names are the Hermite cubics of the spline points
+-- whenever joining is not refused, both axes of the curve that the call hands out are the Hermite cubics of the spline points
 abbrev pub JoinIsHermite : Type 0
 JoinIsHermite =
-    (ss : List ℕ) (xs ys dxs dys : List ℤ) (knotPlaces xPlaces yPlaces : ℕ)
-    → joinRefusal innerKnots ss xs ys dxs dys knotPlaces xPlaces yPlaces ≡ accepted
-    → HermiteOnAxis (joinedKnots innerKnots (pieces ss xs dxs)) (joinedPoints innerKnots (pieces ss xs dxs)) ss xs dxs
-    × HermiteOnAxis (joinedKnots innerKnots (pieces ss xs dxs)) (joinedPoints innerKnots (pieces ss ys dys)) ss ys dys
+    (s : SplinePoints) (lent : Lists) → joinNumber innerKnots s lent ≡ accepted
+    → HermiteOnAxis (joinedLists innerKnots s .knots) (joinedLists innerKnots s .xs) (s .params) (s .xs) (s .dxs)
+    × HermiteOnAxis (joinedLists innerKnots s .knots) (joinedLists innerKnots s .ys) (s .params) (s .ys) (s .dys)
+
+-- whenever joining is not refused, the curve that the call hands out passes through every spline point: at s_i it is P_i, on both axes
+abbrev pub JoinMeetsPoints : Type 0
+JoinMeetsPoints =
+    (s : SplinePoints) (lent : Lists) → joinNumber innerKnots s lent ≡ accepted → (i : ℕ) → i < length (s .params)
+    → Equals (exactAt 3 (joinedLists innerKnots s .knots) (joinedLists innerKnots s .xs) (getD (s .params) i 0) 1) (whole (getD (s .xs) i (pos 0)))
+    × Equals (exactAt 3 (joinedLists innerKnots s .knots) (joinedLists innerKnots s .ys) (getD (s .params) i 0) 1) (whole (getD (s .ys) i (pos 0)))
+
+-- ... and its lists are those that the scope tells of, entry by entry
+abbrev pub JoinHasEntries : Type 0
+JoinHasEntries =
+    (s : SplinePoints) (lent : Lists) → joinNumber innerKnots s lent ≡ accepted
+    → KnotsOf (s .params) (joinedLists innerKnots s .knots)
+    × PointsOf (s .params) (s .xs) (s .dxs) (joinedLists innerKnots s .xs)
+    × PointsOf (s .params) (s .ys) (s .dys) (joinedLists innerKnots s .ys)

@@ -99,12 +99,12 @@ module _ (m : ℕ) (ts : List ℕ) (ps : List ℤ) (v : ℕ) (s : Insertable m t
 
 pub insert-keeps-curve : InsertKeepsCurve
 unfolding wholeOk
-insert-keeps-curve m ts xs ys v roomKnots roomXs roomYs e =
-    let a = accepted-of-number m ts xs ys v roomKnots roomXs roomYs e in
-    let whole = and-eq-true-iff (wholePoints m ts xs v) (wholePoints m ts ys v) .0 (a .whole) in
-    let inside = value-of-test m ts xs v (a .value) in
-    let low : getD ts m 0 ≤ v = omega (arith, inside .0) in
+insert-keeps-curve m c v lent e =
+    let a = accepted-of-number m c v lent e in
+    let whole = and-eq-true-iff (wholePoints m (c .knots) (c .xs) v) (wholePoints m (c .knots) (c .ys) v) .0 (a .whole) in
+    let inside = value-of-test m (c .knots) (c .xs) v (a .value) in
+    let low : getD (c .knots) m 0 ≤ v = omega (arith, inside .0) in
     record {
-      x = axis-kept m ts xs v (insertable-xs m ts xs ys v (a .passes) low (inside .1)) (whole .0);
-      y = axis-kept m ts ys v (insertable-ys m ts xs ys v (a .passes) low (inside .1)) (whole .1);
+      x = axis-kept m (c .knots) (c .xs) v (insertable-xs m (c .knots) (c .xs) (c .ys) v (a .passes) low (inside .1)) (whole .0);
+      y = axis-kept m (c .knots) (c .ys) v (insertable-ys m (c .knots) (c .xs) (c .ys) v (a .passes) low (inside .1)) (whole .1);
     }

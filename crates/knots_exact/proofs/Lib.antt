@@ -5,3 +5,4 @@ pub mod InsertionLaws
 pub mod SameLaws
 pub mod RemovalLaws
 pub mod CompactionLaws
+mod Controls

@@ -1,9 +1,10 @@
--- Closed cases of judging: the leftmost fault and its place, in short bytes and in the record of curve A.
+-- Closed cases of judging: the leftmost fault and its place, in short bytes and in the record of curve A; and the lists that stand in bytes.
 use mathlib.Core.Path.{_≡_, refl}
-use mathlib.Core.List.{List, [], _∷_, _++_}
+use mathlib.Core.List.{[], _∷_, _++_}
 use lib.ListN.{take}
-use Rattle.format.proofs.Controls.{bytesA}
+use Rattle.format.proofs.Controls.{bytesA, line, lineBytes}
 use Rattle.layout.specs.Judging.{lengthOk, fieldAt, recordLayout, wholeRecord}
+use Rattle.layout.specs.StoredCurve.{degreeIn, curveIn}
 use Rattle.layout.specs.declared.Fault.the-variants.{Ended, Tag, Length, LeftOver}
 use Rattle.layout.specs.declared.Layout.the-variants.{Sound, Broken}
 
@@ -39,3 +40,12 @@ wrong-length = refl
 between : wholeRecord (1 ∷ 2 ∷ []) ≡ Broken (Ended 2)
 unfolding wholeRecord recordLayout fieldAt lengthOk
 between = refl
+
+-- the degree and the lists that stand in the bytes of a line of degree 1
+degree-of-line : degreeIn lineBytes ≡ 1
+unfolding lineBytes
+degree-of-line = refl
+
+lists-of-line : curveIn lineBytes 10 12 12 ≡ line
+unfolding lineBytes line
+lists-of-line = refl

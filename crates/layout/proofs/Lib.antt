@@ -3,4 +3,5 @@ pub mod TakeLaws
 pub mod SplitLaws
 pub mod RecordLaws
 pub mod WholeLaws
+pub mod StoredLaws
 pub mod Controls

@@ -4,19 +4,20 @@ use mathlib.Core.List.{List, [], _∷_, _++_}
 use Prim.Native.Nat.{ℕ, _+_, _*_, _/_, _%_, _≤_, zero-le}
 use native.Mathlib.Omega.{arith}
 use lib.Dec.{lit<, lit≤}
-use lib.IntN.{ℤ}
 use lib.ListN.{length, take, drop}
 use lib.Seq.{drop-cons, drop-drop, drop-at}
 use borrow.Author.Tests.{eqb-false}
 use Rattle.fields.specs.Bytes.{fieldBytes, knotBytes, coordinateBytes, Octets}
 use Rattle.fields.specs.Places.{u16At, i32At, coordinatesAt}
 use Rattle.fields.proofs.PlaceLaws.{length-entriesAt}
+use Rattle.curve.specs.Lists.{Lists}
 use Rattle.format.specs.Format.{form1, degreeTag, knotsTag, xTag, yTag, recordBytes, Storable}
+use Rattle.format.specs.RecordPlaces.{degreePlace, knotsField, beforeKnots, xField, xPlace, yField, yPlace, recordEnd}
 use Rattle.format.proofs.EntryLaws.{knots-exact, coordinates-exact, knots-small, coordinates-fit}
 use Rattle.format.proofs.InjectiveLaws.{record-grouped}
 use Rattle.format.proofs.SizeLaws.{length-knots, length-coordinates}
-use Rattle.layout.specs.Contents.{degreeIn, knotsIn, xsIn, ysIn}
-use Rattle.layout.specs.Judging.{fieldAt, degreeRule, knotsRule, xRule, yRule, fromX, fromY, recordLayout, recordEnd}
+use Rattle.layout.specs.StoredCurve.{degreeIn, curveIn}
+use Rattle.layout.specs.Judging.{fieldAt, degreeRule, knotsRule, xRule, yRule, fromX, fromY, recordLayout}
 use Rattle.layout.specs.declared.Rule.{Rule}
 use Rattle.layout.specs.declared.Layout.the-variants.{Sound}
 use Rattle.layout.specs.declared.Taken.the-variants.{Field}
@@ -43,12 +44,12 @@ module _ (bytes : List ℕ) (octets : Octets bytes) (k x y : ℕ) (e : recordLay
       ∙ ap (λ (p : ℕ). fieldBytes (rule .tag) (take len (drop here bytes)) ++ drop p bytes) n
       ∙ ap (λ (l : List ℕ). fieldBytes (rule .tag) l ++ drop next bytes) c
 
-  knots-contents : take k (drop 7 bytes) ≡ knotBytes (knotsIn bytes k)
+  knots-contents : take k (drop beforeKnots bytes) ≡ knotBytes (curveIn bytes k x y .knots)
   knots-contents =
       let whole : k % 2 ≡ 0 = length-whole knotsRule k (laid .knots .right) in
       let count : 2 * (k / 2) ≡ k = omega arith in
-      let inside : 7 + 2 * (k / 2) ≤ length bytes = omega (arith, laid .knots .inside) in
-      sym (knots-exact bytes octets 7 (k / 2) inside ∙ ap (λ (n : ℕ). take n (drop 7 bytes)) count)
+      let inside : beforeKnots + 2 * (k / 2) ≤ length bytes = omega (arith, laid .knots .inside) in
+      sym (knots-exact bytes octets beforeKnots (k / 2) inside ∙ ap (λ (n : ℕ). take n (drop beforeKnots bytes)) count)
 
   coordinates-contents : (at z : ℕ) → z % 4 ≡ 0 → at + z ≤ length bytes → take z (drop at bytes) ≡ coordinateBytes (coordinatesAt bytes at (z / 4))
   coordinates-contents at z whole h =
@@ -56,64 +57,66 @@ module _ (bytes : List ℕ) (octets : Octets bytes) (k x y : ℕ) (e : recordLay
       let inside : at + 4 * (z / 4) ≤ length bytes = omega arith in
       sym (coordinates-exact bytes octets at (z / 4) inside ∙ ap (λ (n : ℕ). take n (drop at bytes)) count)
 
-  pub layout-storable : Storable form1 (degreeIn bytes) (knotsIn bytes k) (xsIn bytes k x) (ysIn bytes k x y)
+  pub layout-storable : Storable form1 (degreeIn bytes) (curveIn bytes k x y)
   layout-storable =
       let within = layout-within bytes k x y e in
       let long : (at z : ℕ) → length (coordinateBytes (coordinatesAt bytes at (z / 4))) ≡ 4 * (z / 4) =
       λ at z. length-coordinates (coordinatesAt bytes at (z / 4)) ∙ ap (λ (n : ℕ). 4 * n) (length-entriesAt (i32At bytes) 4 at (z / 4)) in
-      let knots : length (knotBytes (knotsIn bytes k)) ≡ 2 * (k / 2) =
-      length-knots (knotsIn bytes k) ∙ ap (λ (n : ℕ). 2 * n) (length-entriesAt (u16At bytes) 2 7 (k / 2)) in
+      let knots : length (knotBytes (curveIn bytes k x y .knots)) ≡ 2 * (k / 2) =
+      length-knots (curveIn bytes k x y .knots) ∙ ap (λ (n : ℕ). 2 * n) (length-entriesAt (u16At bytes) 2 beforeKnots (k / 2)) in
       record {
-        degree = octets 3;
-        knots = knots-small bytes octets 7 (k / 2);
-        onX = coordinates-fit bytes octets (10 + k) (x / 4);
-        onY = coordinates-fit bytes octets (13 + k + x) (y / 4);
+        degree = octets degreePlace;
+        knots = knots-small bytes octets beforeKnots (k / 2);
+        onX = coordinates-fit bytes octets (xPlace k) (x / 4);
+        onY = coordinates-fit bytes octets (yPlace k x) (y / 4);
         knotRoom = omega (arith, within .knots, knots);
-        xRoom = omega (arith, within .onX, long (10 + k) x);
-        yRoom = omega (arith, within .onY, long (13 + k + x) y);
+        xRoom = omega (arith, within .onX, long (xPlace k) x);
+        yRoom = omega (arith, within .onY, long (yPlace k x) y);
       }
 
   -- the front of the bytes is the record of these lists
-  pub layout-record : bytes ≡ recordBytes form1 (degreeIn bytes) (knotsIn bytes k) (xsIn bytes k x) (ysIn bytes k x y) ++ drop (recordEnd k x y) bytes
+  pub layout-record : bytes ≡ recordBytes form1 (degreeIn bytes) (curveIn bytes k x y) ++ drop (recordEnd k x y) bytes
   layout-record =
-      let ahead : take 1 (drop 3 bytes) ≡ degreeIn bytes ∷ [] = ap (take 1) (drop-cons bytes 3 0 (omega (arith, laid .degree .inside))) in
+      let ahead : take 1 (drop degreePlace bytes) ≡ degreeIn bytes ∷ [] = ap (take 1) (drop-cons bytes degreePlace 0 (omega (arith, laid .degree .inside))) in
       let evenX : x % 4 ≡ 0 = length-whole xRule x (laid .onX .right) in
       let evenY : y % 4 ≡ 0 = length-whole yRule y (laid .onY .right) in
-      let one : drop 0 bytes ≡ fieldBytes degreeTag (degreeIn bytes ∷ []) ++ drop 4 bytes =
-      split-to degreeRule 0 3 4 1 (degreeIn bytes ∷ []) refl refl (laid .degree) ahead in
-      let two : drop 4 bytes ≡ fieldBytes knotsTag (knotBytes (knotsIn bytes k)) ++ drop (7 + k) bytes =
-      split-to knotsRule 4 7 (7 + k) k (knotBytes (knotsIn bytes k)) refl refl (laid .knots) knots-contents in
-      let three : drop (7 + k) bytes ≡ fieldBytes xTag (coordinateBytes (xsIn bytes k x)) ++ drop (10 + k + x) bytes =
-      split-to xRule (7 + k) (10 + k) (10 + k + x) x (coordinateBytes (xsIn bytes k x)) (omega arith) refl (laid .onX)
-      (coordinates-contents (10 + k) x evenX (omega (arith, laid .onX .inside))) in
-      let four : drop (10 + k + x) bytes ≡ fieldBytes yTag (coordinateBytes (ysIn bytes k x y)) ++ drop (recordEnd k x y) bytes =
-      split-to yRule (10 + k + x) (13 + k + x) (recordEnd k x y) y (coordinateBytes (ysIn bytes k x y)) (omega arith) refl (laid .onY)
-      (coordinates-contents (13 + k + x) y evenY (omega (arith, laid .onY .inside))) in
+      let one : drop 0 bytes ≡ fieldBytes degreeTag (degreeIn bytes ∷ []) ++ drop knotsField bytes =
+      split-to degreeRule 0 degreePlace knotsField 1 (degreeIn bytes ∷ []) refl refl (laid .degree) ahead in
+      let two : drop knotsField bytes ≡ fieldBytes knotsTag (knotBytes (curveIn bytes k x y .knots)) ++ drop (xField k) bytes =
+      split-to knotsRule knotsField beforeKnots (xField k) k (knotBytes (curveIn bytes k x y .knots)) refl refl (laid .knots) knots-contents in
+      let three : drop (xField k) bytes ≡ fieldBytes xTag (coordinateBytes (curveIn bytes k x y .xs)) ++ drop (yField k x) bytes =
+      split-to xRule (xField k) (xPlace k) (yField k x) x (coordinateBytes (curveIn bytes k x y .xs)) (omega arith) refl (laid .onX)
+      (coordinates-contents (xPlace k) x evenX (omega (arith, laid .onX .inside))) in
+      let four : drop (yField k x) bytes ≡ fieldBytes yTag (coordinateBytes (curveIn bytes k x y .ys)) ++ drop (recordEnd k x y) bytes =
+      split-to yRule (yField k x) (yPlace k x) (recordEnd k x y) y (coordinateBytes (curveIn bytes k x y .ys)) (omega arith) refl (laid .onY)
+      (coordinates-contents (yPlace k x) y evenY (omega (arith, laid .onY .inside))) in
       one
       ∙ ap (λ (l : List ℕ). fieldBytes degreeTag (degreeIn bytes ∷ []) ++ l)
       (two
-      ∙ ap (λ (l : List ℕ). fieldBytes knotsTag (knotBytes (knotsIn bytes k)) ++ l)
-      (three ∙ ap (λ (l : List ℕ). fieldBytes xTag (coordinateBytes (xsIn bytes k x)) ++ l) four))
-      ∙ sym (record-grouped form1 (degreeIn bytes) (knotsIn bytes k) (xsIn bytes k x) (ysIn bytes k x y) (drop (recordEnd k x y) bytes))
+      ∙ ap (λ (l : List ℕ). fieldBytes knotsTag (knotBytes (curveIn bytes k x y .knots)) ++ l)
+      (three ∙ ap (λ (l : List ℕ). fieldBytes xTag (coordinateBytes (curveIn bytes k x y .xs)) ++ l) four))
+      ∙ sym (record-grouped form1 (degreeIn bytes) (curveIn bytes k x y) (drop (recordEnd k x y) bytes))
 
 -- bytes that begin with some lists' bytes: their layout is sound, with these lists' lengths
-pub record-layout : (m : ℕ) (ts : List ℕ) (xs ys : List ℤ) (rest bytes : List ℕ) → Storable form1 m ts xs ys
-    → bytes ≡ recordBytes form1 m ts xs ys ++ rest
-    → recordLayout bytes ≡ Sound (length (knotBytes ts)) (length (coordinateBytes xs)) (length (coordinateBytes ys))
+pub record-layout : (m : ℕ) (c : Lists) (rest bytes : List ℕ) → Storable form1 m c → bytes ≡ recordBytes form1 m c ++ rest
+    → recordLayout bytes ≡ Sound (length (knotBytes (c .knots))) (length (coordinateBytes (c .xs))) (length (coordinateBytes (c .ys)))
 unfolding recordLayout
-record-layout m ts xs ys rest bytes s e =
+record-layout m c rest bytes s e =
+    let ts = c .knots in
+    let xs = c .xs in
+    let ys = c .ys in
     let k : ℕ = length (knotBytes ts) in
     let x : ℕ = length (coordinateBytes xs) in
     let y : ℕ = length (coordinateBytes ys) in
     let fromY : List ℕ = fieldBytes yTag (coordinateBytes ys) ++ rest in
     let fromX : List ℕ = fieldBytes xTag (coordinateBytes xs) ++ fromY in
     let fromK : List ℕ = fieldBytes knotsTag (knotBytes ts) ++ fromX in
-    let one : drop 0 bytes ≡ fieldBytes degreeTag (m ∷ []) ++ fromK = e ∙ record-grouped form1 m ts xs ys rest in
-    let two : drop 4 bytes ≡ fromK = ap (drop 4) one in
-    let three : drop (7 + k) bytes ≡ fromX = behind 4 (7 + k) knotsTag bytes (knotBytes ts) fromX (omega arith) two in
-    let four : drop (10 + k + x) bytes ≡ fromY = behind (7 + k) (10 + k + x) xTag bytes (coordinateBytes xs) fromY (omega arith) three in
+    let one : drop 0 bytes ≡ fieldBytes degreeTag (m ∷ []) ++ fromK = e ∙ record-grouped form1 m c rest in
+    let two : drop knotsField bytes ≡ fromK = ap (drop knotsField) one in
+    let three : drop (xField k) bytes ≡ fromX = behind knotsField (xField k) knotsTag bytes (knotBytes ts) fromX (omega arith) two in
+    let four : drop (yField k x) bytes ≡ fromY = behind (xField k) (yField k x) xTag bytes (coordinateBytes xs) fromY (omega arith) three in
     let degree : fieldAt degreeRule bytes 0 ≡ Field 1 = field-found degreeRule bytes (m ∷ []) fromK 0 (lit< tt) (length-right degreeRule 1 (lit≤ tt) (lit≤ tt) (eqb-false 1 0 refl) refl) one in
-    let knots : fieldAt knotsRule bytes 4 ≡ Field k = field-found knotsRule bytes (knotBytes ts) fromX 4 (omega (arith, s .knotRoom)) (length-right knotsRule k zero-le (s .knotRoom) (eqb-false 2 0 refl) (omega (arith, length-knots ts))) two in
-    let onX : fieldAt xRule bytes (7 + k) ≡ Field x = field-found xRule bytes (coordinateBytes xs) fromY (7 + k) (omega (arith, s .xRoom)) (length-right xRule x zero-le (s .xRoom) (eqb-false 4 0 refl) (omega (arith, length-coordinates xs))) three in
-    let onY : fieldAt yRule bytes (10 + k + x) ≡ Field y = field-found yRule bytes (coordinateBytes ys) rest (10 + k + x) (omega (arith, s .yRoom)) (length-right yRule y zero-le (s .yRoom) (eqb-false 4 0 refl) (omega (arith, length-coordinates ys))) four in
+    let knots : fieldAt knotsRule bytes knotsField ≡ Field k = field-found knotsRule bytes (knotBytes ts) fromX knotsField (omega (arith, s .knotRoom)) (length-right knotsRule k zero-le (s .knotRoom) (eqb-false 2 0 refl) (omega (arith, length-knots ts))) two in
+    let onX : fieldAt xRule bytes (xField k) ≡ Field x = field-found xRule bytes (coordinateBytes xs) fromY (xField k) (omega (arith, s .xRoom)) (length-right xRule x zero-le (s .xRoom) (eqb-false 4 0 refl) (omega (arith, length-coordinates xs))) three in
+    let onY : fieldAt yRule bytes (yField k x) ≡ Field y = field-found yRule bytes (coordinateBytes ys) rest (yField k x) (omega (arith, s .yRoom)) (length-right yRule y zero-le (s .yRoom) (eqb-false 4 0 refl) (omega (arith, length-coordinates ys))) four in
     rw (degree, knots, onX, onY)

@@ -1,5 +1,5 @@
 -- A field is taken exactly where the bytes from its place on are a field's bytes of a right length, and then anything.
-use mathlib.Core.Bool.{Bool, true, false, cond, not, _&&_, false≢true}
+use mathlib.Core.Bool.{Bool, true, false, cond, not, _&&_}
 use mathlib.Core.Path.{_≡_, refl, sym, ap, _∙_, subst, subst₂, subst₃}
 use mathlib.Core.List.{List, _∷_, _++_}
 use Prim.Native.Nat.{ℕ, suc, _+_, _*_, _-_, _/_, _%_, _<_, _≤_}
@@ -12,8 +12,10 @@ use lib.Seq.{drop-cons, drop-drop, getD-drop, length-take-le}
 use borrow.Author.Tests.{leb-true, ltb-false, eqb-true, eq-eqb, not-false}
 use Rattle.fields.specs.Bytes.{fieldBytes, Octets}
 use Rattle.fields.specs.Places.{u16At}
+use Rattle.refusal.proofs.JudgingLaws.{both}
 use Rattle.grid.specs.Limits.{knotBytesMost, coordinateBytesMost}
-use Rattle.layout.specs.Judging.{lengthOk, wholeEntries, fieldAt, thenField, degreeRule, knotsRule, xRule, yRule, fromKnots, fromX, fromY, recordLayout, recordEnd}
+use Rattle.format.specs.RecordPlaces.{knotsField, xField, yField, recordEnd}
+use Rattle.layout.specs.Judging.{lengthOk, wholeEntries, fieldAt, thenField, degreeRule, knotsRule, xRule, yRule, fromKnots, fromX, fromY, recordLayout}
 use Rattle.layout.specs.declared.Rule.{Rule}
 use Rattle.layout.specs.declared.Fault.{Fault}
 use Rattle.layout.specs.declared.Fault.the-variants.{Ended, Tag, Length}
@@ -61,10 +63,6 @@ field-known rule bytes at len e =
       inside = omega (arith, ltb-false n (at + 3 + size) (f .0), is);
     }
 
-both : (a b : Bool) → (a && b) ≡ true → (a ≡ true) × (b ≡ true)
-both true b e = (refl, e)
-both false b e = absurd (false≢true e)
-
 -- what a right length is
 pub length-least : (rule : Rule) (len : ℕ) → lengthOk rule len ≡ true → rule .least ≤ len
 unfolding lengthOk
@@ -109,9 +107,9 @@ field-split rule bytes at len octets whole =
     let next : at + 1 + 1 ≡ at + 2 = omega arith in
     let low : ℕ = getD bytes (at + 1) 0 in
     let high : ℕ = getD bytes (at + 2) 0 in
-    let told : low + 256 * high ≡ len = ap (λ (k : ℕ). low + 256 * getD bytes k 0) (sym next) ∙ whole .size in
-    let isLow : low ≡ length contents % 256 = pair-low low high (length contents) (octets (at + 1)) (told ∙ sym size) in
-    let isHigh : high ≡ length contents / 256 % 256 = pair-high low high (length contents) (octets (at + 1)) (octets (at + 2)) (told ∙ sym size) in
+    let sum : low + 256 * high ≡ len = ap (λ (k : ℕ). low + 256 * getD bytes k 0) (sym next) ∙ whole .size in
+    let isLow : low ≡ length contents % 256 = pair-low low high (length contents) (octets (at + 1)) (sum ∙ sym size) in
+    let isHigh : high ≡ length contents / 256 % 256 = pair-high low high (length contents) (octets (at + 1)) (octets (at + 2)) (sum ∙ sym size) in
     let rest : drop (at + 3) bytes ≡ contents ++ drop (at + 3 + len) bytes =
     sym (take-append-drop len (drop (at + 3) bytes)) ∙ ap (λ (l : List ℕ). contents ++ l) (drop-drop len (at + 3) bytes) in
     three-ahead bytes at (omega arith)
@@ -138,9 +136,9 @@ field-found rule bytes contents rest at short right e =
 -- what is known where a record's fields were taken
 pub record Laid (bytes : List ℕ) (k x y : ℕ) : Type 0 where
   pub degree : Whole degreeRule bytes 0 1
-  pub knots : Whole knotsRule bytes 4 k
-  pub onX : Whole xRule bytes (7 + k) x
-  pub onY : Whole yRule bytes (10 + k + x) y
+  pub knots : Whole knotsRule bytes knotsField k
+  pub onX : Whole xRule bytes (xField k) x
+  pub onY : Whole yRule bytes (yField k x) y
 
 module _ (k x y : ℕ) where
   broken-layout : (fault : Fault) → Unsound fault ≡ Sound k x y → ⊥
@@ -155,9 +153,9 @@ module _ (k x y : ℕ) where
   unfolding recordLayout
   layout-known bytes e =
       let a = taken-first (fieldAt degreeRule bytes 0) (λ d. fromKnots bytes) e in
-      let b = taken-first (fieldAt knotsRule bytes 4) (λ k. fromX bytes k) (a .2) in
-      let c = taken-first (fieldAt xRule bytes (7 + b .0)) (λ x. fromY bytes (b .0) x) (b .2) in
-      let d = taken-first (fieldAt yRule bytes (10 + b .0 + c .0)) (λ y. Sound (b .0) (c .0) y) (c .2) in
+      let b = taken-first (fieldAt knotsRule bytes knotsField) (λ k. fromX bytes k) (a .2) in
+      let c = taken-first (fieldAt xRule bytes (xField (b .0))) (λ x. fromY bytes (b .0) x) (b .2) in
+      let d = taken-first (fieldAt yRule bytes (yField (b .0) (c .0))) (λ y. Sound (b .0) (c .0) y) (c .2) in
       let isK : b .0 ≡ k = cc (d .2) in
       let isX : c .0 ≡ x = cc (d .2) in
       let isY : d .0 ≡ y = cc (d .2) in
@@ -165,11 +163,11 @@ module _ (k x y : ℕ) where
       let one : a .0 ≡ 1 = omega (arith, length-least degreeRule (a .0) (first .right), length-most degreeRule (a .0) (first .right)) in
       record {
         degree = subst (Whole degreeRule bytes 0) one first;
-        knots = subst (Whole knotsRule bytes 4) isK (field-known knotsRule bytes 4 (b .0) (b .1));
-        onX = subst₂ (λ (k x : ℕ). Whole xRule bytes (7 + k) x) isK isX (field-known xRule bytes (7 + b .0) (c .0) (c .1));
+        knots = subst (Whole knotsRule bytes knotsField) isK (field-known knotsRule bytes knotsField (b .0) (b .1));
+        onX = subst₂ (λ (k x : ℕ). Whole xRule bytes (xField k) x) isK isX (field-known xRule bytes (xField (b .0)) (c .0) (c .1));
         onY =
-            subst₃ (λ (k x y : ℕ). Whole yRule bytes (10 + k + x) y) isK isX isY
-            (field-known yRule bytes (10 + b .0 + c .0) (d .0) (d .1));
+            subst₃ (λ (k x y : ℕ). Whole yRule bytes (yField k x) y) isK isX isY
+            (field-known yRule bytes (yField (b .0) (c .0)) (d .0) (d .1));
       }
 
 -- no field of a sound layout is longer than its most

@@ -5,14 +5,15 @@ use mathlib.Core.List.{List, [], _++_, append-nil}
 use Prim.Native.Nat.{ℕ, _≤_}
 use native.Mathlib.Omega.{arith}
 use lib.Dec.{leb}
-use lib.IntN.{ℤ}
 use lib.ListN.{length, drop-of-length-le}
 use borrow.Author.Tests.{le-leb, leb-true}
 use Rattle.fields.specs.Bytes.{knotBytes, coordinateBytes, Octets}
+use Rattle.curve.specs.Lists.{Lists}
 use Rattle.format.specs.Format.{form1, recordBytes, Storable, IsRecord}
+use Rattle.format.specs.RecordPlaces.{recordEnd}
 use Rattle.format.proofs.SizeLaws.{length-record}
-use Rattle.layout.specs.Contents.{degreeIn, knotsIn, xsIn, ysIn}
-use Rattle.layout.specs.Judging.{recordLayout, recordEnd, alone, wholeRecord}
+use Rattle.layout.specs.StoredCurve.{degreeIn, curveIn}
+use Rattle.layout.specs.Judging.{recordLayout, alone, wholeRecord}
 use Rattle.layout.specs.declared.Fault.{Fault}
 use Rattle.layout.specs.declared.Fault.the-variants.{LeftOver}
 use Rattle.layout.specs.declared.Layout.{Layout}
@@ -46,42 +47,40 @@ whole-lone bytes k x y e = lone-by bytes k x y (recordLayout bytes) refl e
 
 -- bytes that are judged sound are the record of the lists that stand in them
 pub whole-record : (bytes : List ℕ) → Octets bytes → (k x y : ℕ) → wholeRecord bytes ≡ Sound k x y
-    → bytes ≡ recordBytes form1 (degreeIn bytes) (knotsIn bytes k) (xsIn bytes k x) (ysIn bytes k x y)
+    → bytes ≡ recordBytes form1 (degreeIn bytes) (curveIn bytes k x y)
 whole-record bytes octets k x y e =
     let lone = whole-lone bytes k x y e in
     layout-record bytes octets k x y (lone .layout)
-    ∙ ap (λ (l : List ℕ). recordBytes form1 (degreeIn bytes) (knotsIn bytes k) (xsIn bytes k x) (ysIn bytes k x y) ++ l)
+    ∙ ap (λ (l : List ℕ). recordBytes form1 (degreeIn bytes) (curveIn bytes k x y) ++ l)
     (drop-of-length-le bytes (lone .ends))
-    ∙ append-nil (recordBytes form1 (degreeIn bytes) (knotsIn bytes k) (xsIn bytes k x) (ysIn bytes k x y))
+    ∙ append-nil (recordBytes form1 (degreeIn bytes) (curveIn bytes k x y))
 
 pub whole-storable : (bytes : List ℕ) → Octets bytes → (k x y : ℕ) → wholeRecord bytes ≡ Sound k x y
-    → Storable form1 (degreeIn bytes) (knotsIn bytes k) (xsIn bytes k x) (ysIn bytes k x y)
+    → Storable form1 (degreeIn bytes) (curveIn bytes k x y)
 whole-storable bytes octets k x y e = layout-storable bytes octets k x y (whole-lone bytes k x y e .layout)
 
 -- some lists' bytes are judged sound
-pub record-whole : (m : ℕ) (ts : List ℕ) (xs ys : List ℤ) (bytes : List ℕ) → Storable form1 m ts xs ys → bytes ≡ recordBytes form1 m ts xs ys
-    → wholeRecord bytes ≡ Sound (length (knotBytes ts)) (length (coordinateBytes xs)) (length (coordinateBytes ys))
+pub record-whole : (m : ℕ) (c : Lists) (bytes : List ℕ) → Storable form1 m c → bytes ≡ recordBytes form1 m c
+    → wholeRecord bytes ≡ Sound (length (knotBytes (c .knots))) (length (coordinateBytes (c .xs))) (length (coordinateBytes (c .ys)))
 unfolding wholeRecord
-record-whole m ts xs ys bytes s e =
-    let k : ℕ = length (knotBytes ts) in
-    let x : ℕ = length (coordinateBytes xs) in
-    let y : ℕ = length (coordinateBytes ys) in
-    let size : length bytes ≡ recordEnd k x y = ap length e ∙ length-record form1 m ts xs ys in
+record-whole m c bytes s e =
+    let k : ℕ = length (knotBytes (c .knots)) in
+    let x : ℕ = length (coordinateBytes (c .xs)) in
+    let y : ℕ = length (coordinateBytes (c .ys)) in
+    let size : length bytes ≡ recordEnd k x y = ap length e ∙ length-record form1 m c in
     let inside : length bytes ≤ recordEnd k x y = omega arith in
-    rw (record-layout m ts xs ys [] bytes s (e ∙ sym (append-nil (recordBytes form1 m ts xs ys))), le-leb (length bytes) (recordEnd k x y) inside)
+    rw (record-layout m c [] bytes s (e ∙ sym (append-nil (recordBytes form1 m c))), le-leb (length bytes) (recordEnd k x y) inside)
 
 -- the two together: sound exactly where the bytes are a record
 abbrev pub record-of-sound : (bytes : List ℕ) → Octets bytes → (k x y : ℕ) → wholeRecord bytes ≡ Sound k x y → IsRecord form1 bytes
 record-of-sound bytes octets k x y e =
     record {
       m = degreeIn bytes;
-      ts = knotsIn bytes k;
-      xs = xsIn bytes k x;
-      ys = ysIn bytes k x y;
+      c = curveIn bytes k x y;
       storable = whole-storable bytes octets k x y e;
       same = whole-record bytes octets k x y e;
     }
 
 pub unsound-no-record : (bytes : List ℕ) (fault : Fault) → wholeRecord bytes ≡ Unsound fault → IsRecord form1 bytes → ⊥
 unsound-no-record bytes fault e r =
-    unsound _ _ _ fault (sym e ∙ record-whole (r .m) (r .ts) (r .xs) (r .ys) bytes (r .storable) (r .same))
+    unsound _ _ _ fault (sym e ∙ record-whole (r .m) (r .c) bytes (r .storable) (r .same))

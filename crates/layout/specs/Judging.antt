@@ -6,8 +6,9 @@ use Prim.Native.Nat.{ℕ, _+_, _%_}
 use lib.Dec.{leb, ltb, eqb}
 use lib.ListN.{length, getD}
 use Rattle.fields.specs.Places.{u16At}
-use Rattle.grid.specs.Limits.{knotBytesMost, coordinateBytesMost}
+use Rattle.grid.specs.Limits.{headBytes, knotBytesMost, coordinateBytesMost}
 use Rattle.format.specs.Format.{degreeTag, knotsTag, xTag, yTag}
+use Rattle.format.specs.RecordPlaces.{knotsField, xField, yField, recordEnd}
 use Rattle.layout.specs.declared.Rule.{Rule}
 use Rattle.layout.specs.declared.Fault.the-variants.{Ended, Tag, Length, LeftOver}
 use Rattle.layout.specs.declared.Taken.{Taken}
@@ -43,9 +44,9 @@ unfoldable pub fieldAt : Rule → List ℕ → ℕ → Taken
 fieldAt rule bytes at =
     cond (leb (length bytes) at) (Broken (Ended (length bytes)))
     (cond (not (eqb (getD bytes at 0) (rule .tag))) (Broken (Tag at))
-    (cond (ltb (length bytes) (at + 3)) (Broken (Ended (length bytes)))
+    (cond (ltb (length bytes) (at + headBytes)) (Broken (Ended (length bytes)))
     (cond (not (lengthOk rule (u16At bytes (at + 1)))) (Broken (Length (at + 1)))
-    (cond (ltb (length bytes) (at + 3 + u16At bytes (at + 1))) (Broken (Ended (length bytes)))
+    (cond (ltb (length bytes) (at + headBytes + u16At bytes (at + 1))) (Broken (Ended (length bytes)))
     (Field (u16At bytes (at + 1)))))))
 
 -- what follows a field that was taken; a fault stops the reading
@@ -55,23 +56,19 @@ thenField (Broken fault) next = Unsound fault
 
 -- from the y field on, behind knots of k bytes and x of x bytes
 abbrev pub fromY : List ℕ → ℕ → ℕ → Layout
-fromY bytes k x = thenField (fieldAt yRule bytes (10 + k + x)) (λ y. Sound k x y)
+fromY bytes k x = thenField (fieldAt yRule bytes (yField k x)) (λ y. Sound k x y)
 
 -- from the x field on, behind knots of k bytes
 abbrev pub fromX : List ℕ → ℕ → Layout
-fromX bytes k = thenField (fieldAt xRule bytes (7 + k)) (λ x. fromY bytes k x)
+fromX bytes k = thenField (fieldAt xRule bytes (xField k)) (λ x. fromY bytes k x)
 
 -- from the knots' field on
 abbrev pub fromKnots : List ℕ → Layout
-fromKnots bytes = thenField (fieldAt knotsRule bytes 4) (λ k. fromX bytes k)
+fromKnots bytes = thenField (fieldAt knotsRule bytes knotsField) (λ k. fromX bytes k)
 
 -- the record at the front of bytes, whatever follows it
 unfoldable pub recordLayout : List ℕ → Layout
 recordLayout bytes = thenField (fieldAt degreeRule bytes 0) (λ d. fromKnots bytes)
-
--- where a record with fields of these lengths ends
-abbrev pub recordEnd : ℕ → ℕ → ℕ → ℕ
-recordEnd k x y = 13 + k + x + y
 
 -- nothing may follow a lone record
 abbrev pub alone : List ℕ → Layout → Layout

@@ -1,7 +1,8 @@
 // Reads the structure of bytes, field by field from the left: sound, or the leftmost fault with its place.
 ghost use mathlib.Core.Path.{_≡_};
-ghost use Prim.Native.Nat.{_+_, _≤_};
-ghost use Rattle.layout.specs.Judging.{lengthOk, fieldAt, degreeRule, knotsRule, xRule, yRule, fromKnots, fromX, fromY, recordLayout, wholeRecord};
+ghost use Prim.Native.Nat.{_≤_};
+ghost use Rattle.grid.specs.Limits.{knotBytesMost};
+ghost use Rattle.layout.specs.Judging.{lengthOk, fieldAt, fromX, recordLayout, wholeRecord};
 
 // What a field must be: its tag, its least and largest length, and the width of an entry.
 pub struct Rule {
@@ -60,95 +61,41 @@ pub fn take_field(bytes: &[u8], at: usize, rule: Rule) -> Taken
     if tag != rule.tag {
         return Taken::Broken(Fault::Tag(at));
     }
-    if len < at + 3 {
+    if len < at + grid::HEAD_BYTES {
         return Taken::Broken(Fault::Ended(len));
     }
     let size = fields::get_u16(bytes, at + 1) as usize;
     if !length_ok(rule, size) {
         return Taken::Broken(Fault::Length(at + 1));
     }
-    if len < at + 3 + size {
+    if len < at + grid::HEAD_BYTES + size {
         return Taken::Broken(Fault::Ended(len));
     }
     Taken::Field(size)
 }
 
-// What the degree's field must be.
-fn degree_rule() -> Rule
-    ensures answer { λ r. ⌜ r ≡ degreeRule ⌝ }
-{
-    Rule {
-        tag: 1,
-        least: 1,
-        most: 1,
-        width: 1,
-    }
-}
-
-// What the knots' field must be.
-fn knots_rule() -> Rule
-    ensures answer { λ r. ⌜ r ≡ knotsRule ⌝ }
-{
-    Rule {
-        tag: 2,
-        least: 0,
-        most: 2056,
-        width: 2,
-    }
-}
-
-// What the x field must be.
-fn x_rule() -> Rule
-    ensures answer { λ r. ⌜ r ≡ xRule ⌝ }
-{
-    Rule {
-        tag: 3,
-        least: 0,
-        most: 4096,
-        width: 4,
-    }
-}
-
-// What the y field must be.
-fn y_rule() -> Rule
-    ensures answer { λ r. ⌜ r ≡ yRule ⌝ }
-{
-    Rule {
-        tag: 4,
-        least: 0,
-        most: 4096,
-        width: 4,
-    }
-}
-
-// From the y field on.
-fn from_y(bytes: &[u8], knots: usize, xs: usize) -> Layout
-    requires { ⌜ knots + xs ≤ 65536 ⌝ }
-    ensures answer { λ r. ⌜ r ≡ fromY (now (bytes .entry)) knots xs ⌝ }
-{
-    match take_field(bytes, 10 + knots + xs, y_rule()) {
-        Taken::Field(ys) => Layout::Sound { knots, xs, ys },
-        Taken::Broken(fault) => Layout::Broken(fault),
-    }
-}
-
-// From the x field on.
+// The fields of x and y, behind knots of `knots` bytes.
 fn from_x(bytes: &[u8], knots: usize) -> Layout
-    requires { ⌜ knots ≤ 2056 ⌝ }
+    requires { ⌜ knots ≤ knotBytesMost ⌝ }
     ensures answer { λ r. ⌜ r ≡ fromX (now (bytes .entry)) knots ⌝ }
 {
-    match take_field(bytes, 7 + knots, x_rule()) {
-        Taken::Field(xs) => from_y(bytes, knots, xs),
-        Taken::Broken(fault) => Layout::Broken(fault),
-    }
-}
-
-// From the knots' field on.
-fn from_knots(bytes: &[u8]) -> Layout
-    ensures answer { λ r. ⌜ r ≡ fromKnots (now (bytes .entry)) ⌝ }
-{
-    match take_field(bytes, 4, knots_rule()) {
-        Taken::Field(knots) => from_x(bytes, knots),
+    let x_rule = Rule {
+        tag: format::X_TAG,
+        least: 0,
+        most: grid::COORDINATE_BYTES_MOST,
+        width: 4,
+    };
+    let y_rule = Rule {
+        tag: format::Y_TAG,
+        least: 0,
+        most: grid::COORDINATE_BYTES_MOST,
+        width: 4,
+    };
+    match take_field(bytes, format::BEFORE_KNOTS + knots, x_rule) {
+        Taken::Field(xs) => match take_field(bytes, format::BEFORE_X + knots + xs, y_rule) {
+            Taken::Field(ys) => Layout::Sound { knots, xs, ys },
+            Taken::Broken(fault) => Layout::Broken(fault),
+        },
         Taken::Broken(fault) => Layout::Broken(fault),
     }
 }
@@ -157,8 +104,23 @@ fn from_knots(bytes: &[u8]) -> Layout
 pub fn record_layout(bytes: &[u8]) -> Layout
     ensures answer { λ r. ⌜ r ≡ recordLayout (now (bytes .entry)) ⌝ }
 {
-    match take_field(bytes, 0, degree_rule()) {
-        Taken::Field(_) => from_knots(bytes),
+    let degree_rule = Rule {
+        tag: format::DEGREE_TAG,
+        least: 1,
+        most: 1,
+        width: 1,
+    };
+    let knots_rule = Rule {
+        tag: format::KNOTS_TAG,
+        least: 0,
+        most: grid::KNOT_BYTES_MOST,
+        width: 2,
+    };
+    match take_field(bytes, 0, degree_rule) {
+        Taken::Field(_) => match take_field(bytes, format::KNOTS_FIELD, knots_rule) {
+            Taken::Field(knots) => from_x(bytes, knots),
+            Taken::Broken(fault) => Layout::Broken(fault),
+        },
         Taken::Broken(fault) => Layout::Broken(fault),
     }
 }
@@ -169,7 +131,7 @@ pub fn whole_record(bytes: &[u8]) -> Layout
 {
     match record_layout(bytes) {
         Layout::Sound { knots, xs, ys } => {
-            let end = 13 + knots + xs + ys;
+            let end = format::BEFORE_Y + knots + xs + ys;
             if bytes.len() <= end {
                 return Layout::Sound { knots, xs, ys };
             }

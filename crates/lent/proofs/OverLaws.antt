@@ -1,19 +1,15 @@
 -- A result over a lent list: its length, one entry more, two results one behind the other; and what a call leaves by its number.
 use mathlib.Core.List.{List, [], _∷_, _++_, append-assoc, append-nil}
-use mathlib.Core.Path.{_≡_, refl, sym, _∙_}
-use Prim.Native.Nat.{ℕ, suc, _+_, _-_, _≤_, _<_}
+use mathlib.Core.Path.{_≡_, sym, _∙_}
+use Prim.Native.Nat.{ℕ, suc, _≤_, _<_}
 use native.Mathlib.Numerals.{add-one}
 use native.Mathlib.Omega.{arith}
 use lib.Dec.{eqb·suc-zero}
 use lib.ListN.{length, getD, take, drop, set, length-append, length-drop, drop-of-length-le, List·getD-append}
-use lib.Seq.{set-at, drop-cons, append-snoc, take-append-seam, drop-append-seam, drop-drop}
+use lib.Seq.{set-at, drop-cons, append-snoc, take-append-seam, drop-drop}
 use Rattle.lent.specs.Lent.{over, after}
 
 module _ {A : Type 0} where
-  -- nothing over a list is the list
-  pub over-none : (before : List A) → over [] before ≡ before
-  over-none before = refl
-
   -- the list keeps its length
   pub over-length : (result before : List A) → length result ≤ length before → length (over result before) ≡ length before
   over-length result before room = rw (length-append, length-drop) (omega arith)
@@ -25,9 +21,6 @@ module _ {A : Type 0} where
   -- the first entries are the result, and those behind it are as before
   pub over-result : (result before : List A) → take (length result) (over result before) ≡ result
   over-result result before = take-append-seam result (drop (length result) before)
-
-  pub over-rest : (result before : List A) → drop (length result) (over result before) ≡ drop (length result) before
-  over-rest result before = drop-append-seam result (drop (length result) before)
 
   pub over-entry : (result before : List A) (k : ℕ) (d : A) → k < length result → getD (over result before) k d ≡ getD result k d
   over-entry result before k d i = List·getD-append result (drop (length result) before) d k i
@@ -44,10 +37,6 @@ module _ {A : Type 0} where
   pub over-append : (first second before : List A) → over (first ++ second) before ≡ first ++ over second (drop (length first) before)
   over-append first second before =
       rw (length-append first second, append-assoc first second, drop-drop (length second) (length first) before)
-
-  -- what a call leaves: the result where nothing is refused, else the list as it was found
-  pub after-accepted : (result before : List A) → after 0 result before ≡ over result before
-  after-accepted result before = refl
 
   pub after-refused : (number : ℕ) (result before : List A) → after (suc number) result before ≡ before
   after-refused number result before = rw (eqb·suc-zero number)

@@ -6,8 +6,7 @@ use Prim.Native.Nat.{ℕ}
 use lib.Dec.{eqb}
 use lib.ListN.{length, drop}
 
--- the result at the front, the rest as before
-abbrev pub over : {A : Type 0} → List A → List A → List A
+abbrev pub over : {A : Type 0} → List A → List A → List A  -- the result at the front, the rest as before
 over result before = result ++ drop (length result) before
 
 -- a call's list at the end: the result over it where the refusal number is 0, else as it was found

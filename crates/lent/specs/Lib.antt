@@ -1,2 +1,3 @@
 -- What lent result lists hold after a call.
 pub mod Lent
+pub mod Sentences

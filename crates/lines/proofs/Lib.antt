@@ -1,7 +1,4 @@
--- Laws of digits and of text that is put into a list.
+-- Laws of lines.
 pub mod Controls
-pub mod DecimalLaws
 pub mod LengthLaws
 pub mod LinesLaws
-pub mod PutLaws
-pub mod ValueLaws

@@ -1,8 +1,8 @@
--- The lines that the program prints (heading "Worked by hand"); each ends in a newline.
+-- The lines that the program prints (heading "`clampcheck`"); each ends in a newline.
 use mathlib.Core.List.{List, [], _∷_, _++_}
 use Prim.Native.Nat.{ℕ}
-use Rattle.lines.specs.Letters.{a, c, d, e, f, g, i, l, m, n, o, p, r, s, t, u, v, y, space, dot, newline}
-use Rattle.lines.specs.Decimal.{decimal}
+use Rattle.digits.specs.Letters.{a, c, d, e, f, g, i, l, m, n, o, p, r, s, t, u, v, y, space, dot, newline}
+use Rattle.digits.specs.Decimal.{decimal}
 
 -- "curve degree "
 abbrev pub curveWord : List ℕ
@@ -44,23 +44,29 @@ lineEnd = newline ∷ []
 abbrev pub labelled : List ℕ → ℕ → List ℕ
 labelled word number = word ++ decimal number
 
+-- a line of one number, and what stands behind it
+unfoldable pub oneNumber : List ℕ → ℕ → List ℕ → List ℕ
+oneNumber word number end = labelled word number ++ end
+
+-- a line of three numbers, each behind its word
+unfoldable pub threeNumbers : List ℕ → ℕ → List ℕ → ℕ → List ℕ → ℕ → List ℕ
+threeNumbers first x second y third z = labelled first x ++ labelled second y ++ labelled third z ++ lineEnd
+
 -- "curve degree D points P spans S"
-unfoldable pub curveLine : ℕ → ℕ → ℕ → List ℕ
-curveLine degree points spans =
-    labelled curveWord degree ++ labelled pointsWord points ++ labelled spansWord spans ++ lineEnd
+abbrev pub curveLine : ℕ → ℕ → ℕ → List ℕ
+curveLine degree points spans = threeNumbers curveWord degree pointsWord points spansWord spans
 
 -- "clamp K may meet LOW..HIGH"
-unfoldable pub meetLine : ℕ → ℕ → ℕ → List ℕ
-meetLine k low high =
-    labelled clampWord k ++ labelled meetWord low ++ labelled toWord high ++ lineEnd
+abbrev pub meetLine : ℕ → ℕ → ℕ → List ℕ
+meetLine k low high = threeNumbers clampWord k meetWord low toWord high
 
 -- "clamp K clear"
-unfoldable pub clearLine : ℕ → List ℕ
-clearLine k = labelled clampWord k ++ clearWord
+abbrev pub clearLine : ℕ → List ℕ
+clearLine k = oneNumber clampWord k clearWord
 
 -- "refused N"
-unfoldable pub refusedLine : ℕ → List ℕ
-refusedLine number = labelled refusedWord number ++ lineEnd
+abbrev pub refusedLine : ℕ → List ℕ
+refusedLine number = oneNumber refusedWord number lineEnd
 
 -- one line for each listed span, whose two knots stand at the same place of the two lists
 unfoldable pub meetLines : ℕ → List ℕ → List ℕ → List ℕ

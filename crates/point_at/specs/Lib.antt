@@ -1,2 +1,3 @@
 -- The answer of the point call.
 pub mod Point
+pub mod Sentences

@@ -1,10 +1,9 @@
 -- The point at a parameter, and what the call answers (heading "The point at a parameter").
-use mathlib.Core.Bool.{cond}
 use mathlib.Core.List.{List}
 use Prim.Native.Nat.{ℕ, _-_}
-use lib.Dec.{eqb}
 use lib.IntN.{ℤ}
 use lib.ListN.{length}
+use Rattle.refusal.specs.Judging.{answered}
 use Rattle.span.specs.Span.{spanOf}
 use Rattle.triangle.specs.FloatTriangle.{coordinateOf}
 use Rattle.domain.specs.Parameter.{parameterNumber}
@@ -21,5 +20,4 @@ pointOf m ts xs ys t =
 -- the answer: the point where nothing is refused, else the number alone, 1 to 7 for the curve and 8 for the parameter
 abbrev pub answerOf : ℕ → List ℕ → List ℤ → List ℤ → ℕ → PointAnswer
 answerOf m ts xs ys t =
-    let refusal = parameterNumber m ts xs ys t in
-    cond (eqb refusal 0) (At (pointOf m ts xs ys t)) (Refused refusal)
+    answered At Refused (parameterNumber m ts xs ys t) (pointOf m ts xs ys t)

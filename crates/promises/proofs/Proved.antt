@@ -4,7 +4,26 @@ use Prim.Native.Nat.{suc, _+_}
 use native.Mathlib.Numerals.{add-one}
 use lib.ListN.{length, getD}
 use Rattle.checked.proofs.CheckedLaws.{checked-of-passes}
-use Rattle.checked.proofs.SentenceLaws.{check-answers, check-answers-none}
+use Rattle.checked.proofs.SentenceLaws.{check-answers}
+use Rattle.curve.proofs.SentenceLaws.{room-exactly, success-hands-over, refusal-hands-nothing}
+use Rattle.domain.proofs.OutsideLaws.{eight-exactly, accepted-exactly, curve-judged-first}
+use Rattle.span.proofs.SentenceLaws.{carrying-entries}
+use Rattle.point_at.proofs.SentenceLaws.{first-row-carries, point-answered, refusal-answered}
+use Rattle.carrying.proofs.SentenceLaws.{part-of-asked-axis, refusal-hands-no-part}
+use Rattle.insertion.proofs.SentenceLaws.{inserted-by-index, insertion-answers-first}
+use Rattle.removal.proofs.SentenceLaws.{inserted-is-removed, removal-takes-one}
+use Rattle.remove_knot.proofs.SentenceLaws.{removal-answers-first, inserted-is-handed-back}
+use Rattle.compaction.proofs.SentenceLaws.{pass-leaves, turn-ends}
+use Rattle.compact.proofs.SentenceLaws.{compaction-answers-first, compaction-counts}
+use Rattle.joining.proofs.SentenceLaws.{join-answers}
+use Rattle.span_walk.proofs.SentenceLaws.{listed-exactly, list-rises, knots-of-each-span}
+use Rattle.span_walk.proofs.CountLaws.{span-count-exactly}
+use Rattle.spans_met.proofs.SentenceLaws.{list-answers}
+use Rattle.spans_met.proofs.OutcomeLaws.{success-lists-spans, accepted-list-is-exact, refusal-lists-nothing}
+use Rattle.record.proofs.SentenceLaws.{write-answers, read-answers}
+use Rattle.job.proofs.SentenceLaws.{job-answers}
+use Rattle.door_outcomes.proofs.OutcomeLaws as Door
+use Rattle.door_outcomes.proofs.CarryingLaws.{first-finds-carrying}
 use Rattle.span.specs.Span.{spanOf}
 use Rattle.span.proofs.SpanLaws.{span-unique, span-holds, inDomain-says}
 use Rattle.exact.proofs.DomainLaws.{domain-span}
@@ -12,19 +31,20 @@ use Rattle.point_at_exact.proofs.PointNearLaws.{point-near-exact}
 use Rattle.spans_met_exact.proofs.CrossingLaws.{every-crossing-reported}
 use Rattle.knots_exact.proofs.InsertionLaws.{insert-keeps-curve}
 use Rattle.knots_exact.proofs.RemovalLaws.{remove-keeps-curve}
-use Rattle.joining_exact.proofs.JoinedLaws.{join-passes, join-is-hermite}
+use Rattle.joining_exact.proofs.JoinedLaws.{join-passes, join-is-hermite, join-meets-points, join-has-entries}
 use Rattle.remove_knot.proofs.OutcomeLaws as Removal
 use Rattle.round_trip.proofs.RecordTrip.{written-reads-back, read-writes-back, one-record-for-each-curve, records-short, sixteen-exactly, reading-determined}
 use Rattle.round_trip.proofs.JobTrip.{job-reads-back, jobs-short, job-sixteen-exactly, job-reading-determined}
 use Rattle.worked.proofs.WorkedLaws.{worked-hold}
-use Rattle.job_text.proofs.TextLaws.{written-is-text}
-use Rattle.job_text.proofs.UniqueLaws.{text-unique}
+use Rattle.job_text.proofs.TextLaws.{parts-are-the-text, written-is-text}
+use Rattle.job_text.proofs.UniqueLaws.{one-text}
+use Rattle.clear_is_clear.proofs.ClearLaws.{clear-is-clear, every-clamp-told, else-listed}
 use Rattle.knots_exact.proofs.CompactionLaws.{compact-keeps-curve, editing-passes}
 use Rattle.compact.proofs.OutcomeLaws as Compaction
-use Rattle.promises.specs.Promises.{CheckGivesLowestRow, EveryParameterHasItsSpan, ComputedPointNearExact, CrossingsReported, InsertionKeepsCurve, RemovalKeepsCurve, RemovalDetermined, CompactionKeepsCurve, CompactionDetermined, EditedCurvePasses, JoinedCurvePasses, JoinedCurveIsHermite, RecordsGoRound, ReadingIsExact, JobsReadBack, ProgramWritesItsText, WorkedCasesHold}
+use Rattle.promises.specs.Promises.{CheckGivesLowestRow, RefusalsAnswerFirst, ResultsHandedOver, CarryingPointsCarry, SpansListedExactly, InsertedEntryByEntry, InsertedThenRemoved, CompactionTakesWhatItCounts, JoinedCurveMeetsPoints, ExportsDetermined, EveryParameterHasItsSpan, ComputedPointNearExact, CrossingsReported, InsertionKeepsCurve, RemovalKeepsCurve, RemovalDetermined, CompactionKeepsCurve, CompactionDetermined, EditedCurvePasses, JoinedCurvePasses, JoinedCurveIsHermite, RecordsGoRound, ReadingIsExact, JobsReadBack, ProgramWritesItsText, ClearMeansClear, WorkedCasesHold}
 
 pub check-gives-lowest-row : CheckGivesLowestRow
-check-gives-lowest-row m ts xs ys = (check-answers m ts xs ys, check-answers-none m ts xs ys)
+check-gives-lowest-row = check-answers
 
 pub every-parameter-has-its-span : EveryParameterHasItsSpan
 every-parameter-has-its-span m ts xs ys p q passes inside =
@@ -55,7 +75,7 @@ pub joined-curve-is-hermite : JoinedCurveIsHermite
 joined-curve-is-hermite = join-is-hermite
 
 pub removal-determined : RemovalDetermined
-removal-determined m ts xs ys v ks kx ky = Removal.removal-determined m ts xs ys v ks kx ky
+removal-determined = Removal.removal-determined
 
 pub records-go-round : RecordsGoRound
 records-go-round = (written-reads-back, read-writes-back, one-record-for-each-curve, records-short)
@@ -70,17 +90,64 @@ pub worked-cases-hold : WorkedCasesHold
 worked-cases-hold = worked-hold
 
 pub program-writes-its-text : ProgramWritesItsText
-program-writes-its-text = (
-  λ bytes knots across up around r knots₁ across₁ up₁ around₁ a b c d read.
-      written-is-text bytes knots across up around r knots₁ across₁ up₁ around₁ (record { onKnots = a; onX = b; onY = c; onClamps = d }) read,
-  text-unique,
-)
+program-writes-its-text = (parts-are-the-text, written-is-text, one-text)
+
+pub clear-means-clear : ClearMeansClear
+clear-means-clear = (clear-is-clear, every-clamp-told, else-listed)
 
 pub compaction-keeps-curve : CompactionKeepsCurve
 compaction-keeps-curve = compact-keeps-curve
 
 pub compaction-determined : CompactionDetermined
-compaction-determined m c ks kx ky = Compaction.compact-determined m c ks kx ky
+compaction-determined = Compaction.compact-determined
 
 pub edited-curve-passes : EditedCurvePasses
 edited-curve-passes = editing-passes
+
+pub refusals-answer-first : RefusalsAnswerFirst
+refusals-answer-first = (
+  (eight-exactly, accepted-exactly, curve-judged-first),
+  insertion-answers-first,
+  removal-answers-first,
+  compaction-answers-first,
+  join-answers,
+  list-answers,
+  write-answers,
+  read-answers,
+  job-answers,
+)
+
+pub results-handed-over : ResultsHandedOver
+results-handed-over = (room-exactly, success-hands-over, refusal-hands-nothing)
+
+pub carrying-points-carry : CarryingPointsCarry
+carrying-points-carry = (
+  carrying-entries,
+  first-row-carries,
+  (point-answered, refusal-answered),
+  (part-of-asked-axis, refusal-hands-no-part),
+  first-finds-carrying,
+)
+
+pub spans-listed-exactly : SpansListedExactly
+spans-listed-exactly = (
+  (listed-exactly, list-rises, knots-of-each-span, span-count-exactly),
+  success-lists-spans,
+  accepted-list-is-exact,
+  refusal-lists-nothing,
+)
+
+pub inserted-entry-by-entry : InsertedEntryByEntry
+inserted-entry-by-entry = inserted-by-index
+
+pub inserted-then-removed : InsertedThenRemoved
+inserted-then-removed = (inserted-is-removed, inserted-is-handed-back, removal-takes-one)
+
+pub compaction-takes-what-it-counts : CompactionTakesWhatItCounts
+compaction-takes-what-it-counts = (turn-ends, pass-leaves, compaction-counts)
+
+pub joined-curve-meets-points : JoinedCurveMeetsPoints
+joined-curve-meets-points = (join-meets-points, join-has-entries)
+
+pub exports-determined : ExportsDetermined
+exports-determined = (Door.removal-determined, Door.compaction-determined, Door.record-determined, Door.job-determined)

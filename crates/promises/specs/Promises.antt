@@ -1,38 +1,68 @@
 -- What Tsaghnobir promises beyond the contracts of its calls, a statement each. Every word stands in the definitions that those contracts
 -- cite; `proofs/Proved.antt` proves each statement under the same name.
 use mathlib.Core.Bool.{true}
-use mathlib.Core.List.{List}
-use mathlib.Core.Logic.{_↔_}
+use mathlib.Core.List.{List, []}
 use mathlib.Core.Path.{_≡_}
-use Prim.Native.Nat.{ℕ, suc, _-_, _*_, _≤_, _<_}
+use Prim.Native.Nat.{ℕ, suc, _-_, _*_, _≤_}
 use lib.IntN.{ℤ}
 use lib.ListN.{length, getD}
+use Rattle.curve.specs.Lists.{Lists}
 use Rattle.grid.specs.Check.{checkNumber, Passes}
-use Rattle.checked.specs.Sentences.{RowApplies}
+use Rattle.refusal.specs.Chain.{AnswersFirst}
+use Rattle.checked.specs.Sentences.{curveRows}
+use Rattle.curve.specs.Sentences.{RoomExactly, SuccessHandsOver, RefusalHandsNothing}
+use Rattle.domain.specs.Sentences.{EightExactly, AcceptedExactly, CurveJudgedFirst}
 use Rattle.span.specs.Span.{IsSpan, spanOf, inDomain}
+use Rattle.span.specs.Sentences.{CarryingEntries}
+use Rattle.point_at.specs.Sentences.{FirstRowCarries, PointAnswered, RefusalAnswered}
+use Rattle.carrying.specs.Sentences.{PartOfAskedAxis, RefusalHandsNoPart}
+use Rattle.insertion.specs.Sentences.{InsertedByIndex, InsertionAnswersFirst}
+use Rattle.removal.specs.Sentences.{InsertedIsRemoved, RemovalTakesOne}
+use Rattle.remove_knot.specs.Sentences.{RemovalAnswersFirst, InsertedIsHandedBack}
+use Rattle.compaction.specs.Sentences.{PassLeaves, TurnEnds}
+use Rattle.compact.specs.Sentences.{CompactionAnswersFirst, CompactionCounts}
+use Rattle.joining.specs.Sentences.{JoinAnswersFirst}
+use Rattle.span_walk.specs.Sentences.{ListedExactly, ListRises, KnotsOfEachSpan, SpanCountExactly}
+use Rattle.spans_met.specs.Sentences.{ListAnswersFirst}
+use Rattle.spans_met.specs.Outcome.{SuccessListsSpans, AcceptedListIsExact, RefusalListsNothing}
+use Rattle.record.specs.Sentences.{WriteAnswersFirst, ReadAnswersFirst}
+use Rattle.job.specs.Sentences.{JobAnswersFirst}
+use Rattle.door_outcomes.specs.Exports as Door
 use Rattle.point_at_exact.specs.PointNear.{PointNearExact}
 use Rattle.spans_met_exact.specs.Crossing.{EveryCrossingReported}
 use Rattle.remove_knot.specs.declared.RemoveAnswer.{RemoveAnswer}
 use Rattle.remove_knot.specs.Outcome.{RemovalOutcome}
-use Rattle.compaction.specs.Compaction.{Curve}
 use Rattle.compact.specs.declared.CompactAnswer.{CompactAnswer}
 use Rattle.compact.specs.Outcome.{CompactOutcome}
 use Rattle.round_trip.specs.RoundTrip as Trip
-use Rattle.job.specs.declared.JobAnswer.{JobAnswer}
-use Rattle.job.specs.JobReading.{JobRead}
-use Rattle.job_text.specs.Text.{TextOf}
-use Rattle.job_text.specs.Written.{knotPlaces, coordinatePlaces, sidePlaces, written}
+use Rattle.job_text.specs.Program.{PartsAreTheText, WrittenIsText, OneText}
+use Rattle.clear_is_clear.specs.Clear.{ClearIsClear, EveryClampTold, ElseListed}
 use Rattle.worked.specs.Case.{AllHold}
 use Rattle.worked.specs.Worked.{cases}
-use Rattle.joining_exact.specs.JoinedCurve.{JoinPasses, JoinIsHermite}
+use Rattle.joining_exact.specs.JoinedCurve.{JoinPasses, JoinIsHermite, JoinMeetsPoints, JoinHasEntries}
 use Rattle.knots_exact.specs.SameCurve.{InsertKeepsCurve, RemoveKeepsCurve, CompactKeepsCurve, EditingPasses}
 
 -- "Numbers of refusal": the check answers n exactly when row n applies and no lower row does, and 0 exactly when no row does
 abbrev pub CheckGivesLowestRow : Type 0
-CheckGivesLowestRow =
-    (m : ℕ) (ts : List ℕ) (xs ys : List ℤ)
-    → ((n : ℕ) → (checkNumber m ts xs ys ≡ suc n) ↔ (RowApplies (suc n) m ts xs ys × ((i : ℕ) → i < suc n → RowApplies i m ts xs ys → ⊥)))
-    × ((checkNumber m ts xs ys ≡ 0) ↔ ((i : ℕ) → RowApplies i m ts xs ys → ⊥))
+CheckGivesLowestRow = (m : ℕ) (ts : List ℕ) (xs ys : List ℤ) → AnswersFirst (checkNumber m ts xs ys) (curveRows m ts xs ys [])
+
+-- "Numbers of refusal": so does every other call, each in its own order: a number exactly when its row applies and none does that is judged before
+-- it. Each row is a sentence over all entries.
+abbrev pub RefusalsAnswerFirst : Type 0
+RefusalsAnswerFirst =
+    (EightExactly × AcceptedExactly × CurveJudgedFirst) × InsertionAnswersFirst × RemovalAnswersFirst × CompactionAnswersFirst
+    × JoinAnswersFirst × ListAnswersFirst × WriteAnswersFirst × ReadAnswersFirst × JobAnswersFirst
+
+-- "Numbers of refusal": 15 exactly where some list has fewer places than its result; a result stands in front of what was there before, entry for
+-- entry; a refusal leaves all three lists as they were
+abbrev pub ResultsHandedOver : Type 0
+ResultsHandedOver = RoomExactly × SuccessHandsOver × RefusalHandsNothing
+
+-- "The point at a parameter": the carrying entries are P_{i-m} to P_i and row 0 of the triangle; the point call and the carrying call answer from
+-- them, on the asked axis, and C's index finds that very part
+abbrev pub CarryingPointsCarry : Type 0
+CarryingPointsCarry =
+    CarryingEntries × FirstRowCarries × (PointAnswered × RefusalAnswered) × (PartOfAskedAxis × RefusalHandsNoPart) × Door.FirstFindsCarrying
 
 -- "The point at a parameter": every fraction p/q of the domain of a curve that passes has exactly one span, `spanOf` is it, and it holds p/q
 abbrev pub EveryParameterHasItsSpan : Type 0
@@ -41,15 +71,34 @@ EveryParameterHasItsSpan =
     → IsSpan ts m (length xs - 1) p q (spanOf ts m (length xs - 1) p q)
     × ((i : ℕ) → IsSpan ts m (length xs - 1) p q i → (i ≡ spanOf ts m (length xs - 1) p q) × (getD ts i 0 * q ≤ p) × (p ≤ getD ts (suc i) 0 * q))
 
--- "The point at a parameter", demand 3: at each whole parameter of the domain both computed coordinates are finite and less than 2 ^ -30 from the
+-- "The point at a parameter": at each whole parameter of the domain both computed coordinates are finite and less than 2 ^ -30 from the
 -- exact point's
 abbrev pub ComputedPointNearExact : Type 0
 ComputedPointNearExact = PointNearExact
 
--- "Spans to check", demand 3: where the exact point at any fraction of the domain lies in or on an accepted clamp, a span that holds this
+-- "Spans to check": where the exact point at any fraction of the domain lies in or on an accepted clamp, a span that holds this
 -- parameter is on the list
 abbrev pub CrossingsReported : Type 0
 CrossingsReported = EveryCrossingReported
+
+-- "Spans to check": a span is listed exactly when it is one of m to n, not empty, and some whole point lies in its box and in the clamp; the list
+-- rises, its knots are those of each very span, and the non-empty spans are one fewer than the different knots of the domain
+abbrev pub SpansListedExactly : Type 0
+SpansListedExactly =
+    (ListedExactly × ListRises × KnotsOfEachSpan × SpanCountExactly) × SuccessListsSpans × AcceptedListIsExact × RefusalListsNothing
+
+-- "Inserting and removing a knot": each new knot and each new point, by its index
+abbrev pub InsertedEntryByEntry : Type 0
+InsertedEntryByEntry = InsertedByIndex
+
+-- "Inserting and removing a knot": what was inserted can be removed again, which gives the old curve; a removal takes one knot and one point
+abbrev pub InsertedThenRemoved : Type 0
+InsertedThenRemoved = InsertedIsRemoved × InsertedIsHandedBack × RemovalTakesOne
+
+-- "Inserting and removing a knot": right after the turn of a value its removal is not accepted; a pass takes inner knots alone, and the old points are the
+-- new ones and as many more as were removed
+abbrev pub CompactionTakesWhatItCounts : Type 0
+CompactionTakesWhatItCounts = TurnEnds × PassLeaves × CompactionCounts
 
 -- "Inserting and removing a knot": inserting a knot changes neither the domain nor the exact point at any fraction of it
 abbrev pub InsertionKeepsCurve : Type 0
@@ -62,9 +111,8 @@ RemovalKeepsCurve = RemoveKeepsCurve
 -- "Inserting and removing a knot": the cases of removal's contract leave no choice: two outcomes that it permits for one input are the same
 abbrev pub RemovalDetermined : Type 0
 RemovalDetermined =
-    (m : ℕ) (ts : List ℕ) (xs ys : List ℤ) (v : ℕ) (ks : List ℕ) (kx ky : List ℤ) (a b : RemoveAnswer) (k l : List ℕ) (x y u w : List ℤ)
-    → RemovalOutcome m ts xs ys v ks kx ky a k x y → RemovalOutcome m ts xs ys v ks kx ky b l u w
-    → (a ≡ b) × (k ≡ l) × (x ≡ u) × (y ≡ w)
+    (m : ℕ) (c : Lists) (v : ℕ) (before : Lists) (a b : RemoveAnswer) (x y : Lists)
+    → RemovalOutcome m c v before a x → RemovalOutcome m c v before b y → (a ≡ b) × (x ≡ y)
 
 -- "Inserting and removing a knot": compacting keeps the curve too, and has one outcome
 abbrev pub CompactionKeepsCurve : Type 0
@@ -72,8 +120,7 @@ CompactionKeepsCurve = CompactKeepsCurve
 
 abbrev pub CompactionDetermined : Type 0
 CompactionDetermined =
-    (m : ℕ) (c : Curve) (ks : List ℕ) (kx ky : List ℤ) (a b : CompactAnswer) (k l : List ℕ) (x y u w : List ℤ)
-    → CompactOutcome m c ks kx ky a k x y → CompactOutcome m c ks kx ky b l u w → (a ≡ b) × (k ≡ l) × (x ≡ u) × (y ≡ w)
+    (m : ℕ) (c before : Lists) (a b : CompactAnswer) (x y : Lists) → CompactOutcome m c before a x → CompactOutcome m c before b y → (a ≡ b) × (x ≡ y)
 
 -- "Inserting and removing a knot": what inserting, removing and compacting give passes the check again
 abbrev pub EditedCurvePasses : Type 0
@@ -86,6 +133,10 @@ JoinedCurvePasses = JoinPasses
 -- "Joining spline points": its exact curve is the Hermite cubic at every fraction of every interval, on both axes
 abbrev pub JoinedCurveIsHermite : Type 0
 JoinedCurveIsHermite = JoinIsHermite
+
+-- "Joining spline points": it passes through each spline point at its parameter, and has three points a piece and one more
+abbrev pub JoinedCurveMeetsPoints : Type 0
+JoinedCurveMeetsPoints = JoinMeetsPoints × JoinHasEntries
 
 -- "The record on disk": reading what was written gives the curve back, writing what was read gives the bytes back, bytes that read to one
 -- curve are equal, and a record has at most 10,261 bytes
@@ -100,13 +151,19 @@ ReadingIsExact = Trip.SixteenExactly × Trip.ReadingDetermined × Trip.JobSixtee
 abbrev pub JobsReadBack : Type 0
 JobsReadBack = Trip.JobReadsBack × Trip.JobsShort
 
--- "Worked by hand": for any bytes, what `clampcheck` writes after reading them into its own places is their text, and bytes have one text
+-- "`clampcheck`": for any bytes, each part that `clampcheck` writes is that part of their text, the parts in a row are the whole text, and bytes
+-- have one text
 abbrev pub ProgramWritesItsText : Type 0
-ProgramWritesItsText =
-    ((bytes knots : List ℕ) (across up around : List ℤ) (r : JobAnswer) (knots₁ : List ℕ) (across₁ up₁ around₁ : List ℤ)
-    → length knots ≡ knotPlaces → length across ≡ coordinatePlaces → length up ≡ coordinatePlaces → length around ≡ sidePlaces
-    → JobRead bytes knots across up around r knots₁ across₁ up₁ around₁ → TextOf bytes (written r knots₁ across₁ up₁ around₁))
-    × ((bytes a b : List ℕ) → TextOf bytes a → TextOf bytes b → a ≡ b)
+ProgramWritesItsText = PartsAreTheText × WrittenIsText × OneText
+
+-- "`clampcheck`": where the text says that a clamp is clear, the exact curve avoids it at every fraction of the domain; every clamp of a job that
+-- is not refused is told of, and where no line says that it is clear the spans that may meet it are listed
+abbrev pub ClearMeansClear : Type 0
+ClearMeansClear = ClearIsClear × EveryClampTold × ElseListed
+
+-- "How much each contract says": where an export speaks of some answer of the call that it wraps, what it answers is determined
+abbrev pub ExportsDetermined : Type 0
+ExportsDetermined = Door.RemovalDetermined × Door.CompactionDetermined × Door.RecordDetermined × Door.JobDetermined
 
 -- "Worked by hand": every worked case holds of the calls' own answers
 abbrev pub WorkedCasesHold : Type 0

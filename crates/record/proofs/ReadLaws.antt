@@ -1,68 +1,37 @@
--- What reading a curve answers, way by way.
-use mathlib.Core.Bool.{true, false}
-use mathlib.Core.Path.{_≡_, sym, ap₂, _∙_}
-use mathlib.Core.List.{List}
-use Prim.Native.Nat.{ℕ, _<_, _≤_}
-use lib.IntN.{ℤ}
-use lib.ListN.{length}
-use borrow.Author.Tests.{le-leb, lt-leb, ne-eqb}
-use Rattle.lent.specs.Lent.{over}
-use Rattle.refusal.specs.Numbers.{roomRefused}
+-- A record's number by the check's and the room's, each where it was judged; and what a refusal answers and leaves.
+use mathlib.Core.Path.{_≡_, sym, ap, _∙_}
+use Prim.Native.Nat.{ℕ}
+use Rattle.refusal.proofs.JudgingLaws.{answered-refused}
+use Rattle.curve.specs.HandingOver.{roomNumber, handedOver}
+use Rattle.curve.specs.Lists.{Lists}
+use Rattle.curve.proofs.HandingLaws.{handedOver-refused}
 use Rattle.grid.specs.Check.{checkNumber}
 use Rattle.grid.proofs.ThenLaws.{checkedThen-refused, checkedThen-passed}
-use Rattle.record.specs.Reading.{roomOk, curveNumber, CurveRead}
+use Rattle.record.specs.Reading.{recordNumber, readAnswer}
+use Rattle.record.specs.declared.ReadAnswer.{ReadAnswer}
 use Rattle.record.specs.declared.ReadAnswer.the-variants.{Curve, Refused}
 
-module _ (m : ℕ) (ts : List ℕ) (xs ys : List ℤ) (knots : List ℕ) (across up : List ℤ) where
-  -- a number that refuses changes nothing
-  pub curve-refused : (number : ℕ) → curveNumber m ts xs ys knots across up ≡ number → (number ≡ 0 → ⊥)
-      → CurveRead m ts xs ys knots across up (Refused number) knots across up
-  curve-refused number e n =
-      record {
-        answer = rw (e, ne-eqb number 0 n);
-        onKnots = rw (e, ne-eqb number 0 n);
-        onX = rw (e, ne-eqb number 0 n);
-        onY = rw (e, ne-eqb number 0 n);
-      }
-
-  curve-checked : (checkNumber m ts xs ys ≡ 0 → ⊥) → curveNumber m ts xs ys knots across up ≡ checkNumber m ts xs ys
-  unfolding curveNumber
-  curve-checked h = checkedThen-refused m ts xs ys _ h
-
+module _ (m : ℕ) (c lent : Lists) where
   -- the check refuses
-  pub curve-stopped : (number : ℕ) → number ≡ checkNumber m ts xs ys → (number ≡ 0 → ⊥) → CurveRead m ts xs ys knots across up (Refused number) knots across up
-  curve-stopped number e n = curve-refused number (curve-checked (λ z. n (e ∙ z)) ∙ sym e) n
+  pub number-checked : (number : ℕ) → number ≡ checkNumber m (c .knots) (c .xs) (c .ys) → (number ≡ 0 → ⊥) → recordNumber m c lent ≡ number
+  unfolding recordNumber
+  number-checked number e n = checkedThen-refused m (c .knots) (c .xs) (c .ys) _ (λ z. n (e ∙ z)) ∙ sym e
 
-  module _ (passes : checkNumber m ts xs ys ≡ 0) where
-    pub curve-short : roomOk ts xs ys knots across up ≡ false → curveNumber m ts xs ys knots across up ≡ roomRefused
-    unfolding curveNumber
-    curve-short h = checkedThen-passed m ts xs ys _ passes ∙ rw h
+  -- it passes, and only the room is left
+  pub number-room : (checked room : ℕ) → checked ≡ checkNumber m (c .knots) (c .xs) (c .ys) → checked ≡ 0 → room ≡ roomNumber c lent → recordNumber m c lent ≡ room
+  unfolding recordNumber
+  number-room checked room e passes r = checkedThen-passed m (c .knots) (c .xs) (c .ys) _ (sym e ∙ passes) ∙ sym r
 
-    curve-accepted : roomOk ts xs ys knots across up ≡ true → curveNumber m ts xs ys knots across up ≡ 0
-    unfolding curveNumber
-    curve-accepted h = checkedThen-passed m ts xs ys _ passes ∙ rw h
+-- a refusal answers its number and leaves the lists
+pub read-refused : (number judged m points : ℕ) (c before : Lists) → judged ≡ number → (number ≡ 0 → ⊥)
+    → (Refused number ≡ readAnswer judged m points) × (before ≡ handedOver judged c before)
+read-refused number judged m points c before e n =
+    (sym (answered-refused (Curve m) Refused number points n) ∙ rw e, sym (handedOver-refused number c before n) ∙ rw e)
 
-    -- room for all three: the curve is read
-    pub curve-read : (d points : ℕ) (knots₁ : List ℕ) (across₁ up₁ : List ℤ) → roomOk ts xs ys knots across up ≡ true → d ≡ m → points ≡ length xs
-        → knots₁ ≡ over ts knots → across₁ ≡ over xs across → up₁ ≡ over ys up
-        → CurveRead m ts xs ys knots across up (Curve d points) knots₁ across₁ up₁
-    curve-read d points knots₁ across₁ up₁ room isM isN k x y =
-        record {
-          answer = rw (curve-accepted room) (ap₂ Curve isM isN);
-          onKnots = rw (curve-accepted room) k;
-          onX = rw (curve-accepted room) x;
-          onY = rw (curve-accepted room) y;
-        }
+-- the number of points, counted another way
+pub read-counted : (a : ReadAnswer) (number m points counted : ℕ) → a ≡ readAnswer number m points → counted ≡ points → a ≡ readAnswer number m counted
+read-counted a number m points counted e n = e ∙ ap (readAnswer number m) (sym n)
 
-module _ (ts : List ℕ) (xs ys : List ℤ) (knots : List ℕ) (across up : List ℤ) where
-  pub room-knots : length knots < length ts → roomOk ts xs ys knots across up ≡ false
-  room-knots h = rw (lt-leb (length ts) (length knots) h)
-
-  pub room-x : length ts ≤ length knots → length across < length xs → roomOk ts xs ys knots across up ≡ false
-  room-x k h = rw (le-leb (length ts) (length knots) k, lt-leb (length xs) (length across) h)
-
-  pub room-y : length ts ≤ length knots → length xs ≤ length across → length up < length ys → roomOk ts xs ys knots across up ≡ false
-  room-y k x h = rw (le-leb (length ts) (length knots) k, le-leb (length xs) (length across) x, lt-leb (length ys) (length up) h)
-
-  pub room-all : length ts ≤ length knots → length xs ≤ length across → length ys ≤ length up → roomOk ts xs ys knots across up ≡ true
-  room-all k x y = rw (le-leb (length ts) (length knots) k, le-leb (length xs) (length across) x, le-leb (length ys) (length up) y)
+-- nothing refused: the degree and the number of points
+pub read-accepted : (judged d m points : ℕ) → judged ≡ 0 → d ≡ m → Curve d points ≡ readAnswer judged m points
+read-accepted judged d m points e isM = rw (e, isM)

@@ -1,9 +1,10 @@
 // Writes a curve as a record, and reads one.
-mod getting;
+mod sound;
 
 use layout::Layout;
 ghost use mathlib.Core.Path.{_≡_};
 ghost use Rattle.lent.specs.Lent.{after};
+ghost use Rattle.curve.specs.Lists.{lists};
 ghost use Rattle.format.specs.Format.{form1, recordBytes};
 ghost use Rattle.record.specs.Reading.{RecordRead};
 ghost use Rattle.record.specs.Writing.{writeNumber, writeAnswer};
@@ -28,21 +29,20 @@ pub fn write_record(
     ys: &[i32],
     out: &mut [u8],
 ) -> WriteAnswer
-    ensures answer { λ r. ⌜ r ≡ writeAnswer degree (now (knots .entry)) (now (xs .entry)) (now (ys .entry)) (now (out .entry)) ⌝ }
+    ensures answer { λ r. ⌜ r ≡ writeAnswer degree (lists (now (knots .entry)) (now (xs .entry)) (now (ys .entry))) (now (out .entry)) ⌝ }
     ensures result { λ _. ⌜ now (out .exit)
-        ≡ after (writeNumber degree (now (knots .entry)) (now (xs .entry)) (now (ys .entry)) (now (out .entry)))
-        (recordBytes form1 degree (now (knots .entry)) (now (xs .entry)) (now (ys .entry)))
-        (now (out .entry)) ⌝ }
+        ≡ after (writeNumber degree (lists (now (knots .entry)) (now (xs .entry)) (now (ys .entry))) (now (out .entry)))
+        (recordBytes form1 degree (lists (now (knots .entry)) (now (xs .entry)) (now (ys .entry)))) (now (out .entry)) ⌝ }
 {
     let number = grid::check(degree, knots, xs, ys);
     if number != 0 {
         return WriteAnswer::Refused(number);
     }
-    let size = 13 + 2 * knots.len() + 4 * xs.len() + 4 * ys.len();
+    let size = format::BEFORE_Y + 2 * knots.len() + 4 * xs.len() + 4 * ys.len();
     if out.len() < size {
         return WriteAnswer::Refused(refusal::ROOM);
     }
-    putting::put_record(degree, knots, xs, ys, out);
+    record_fields::put_record(degree, knots, xs, ys, out);
     WriteAnswer::Written(size)
 }
 
@@ -53,11 +53,11 @@ pub fn read_record(
     out_xs: &mut [i32],
     out_ys: &mut [i32],
 ) -> ReadAnswer
-    ensures answer { λ r. ⌜ RecordRead (now (bytes .entry)) (now («out_knots» .entry)) (now («out_xs» .entry)) (now («out_ys» .entry)) r
-        (now («out_knots» .exit)) (now («out_xs» .exit)) (now («out_ys» .exit)) ⌝ }
+    ensures answer { λ r. ⌜ RecordRead (now (bytes .entry)) (lists (now («out_knots» .entry)) (now («out_xs» .entry)) (now («out_ys» .entry))) r
+        (lists (now («out_knots» .exit)) (now («out_xs» .exit)) (now («out_ys» .exit))) ⌝ }
 {
     match layout::whole_record(bytes) {
-        Layout::Sound { knots, xs, ys } => getting::read_sound(
+        Layout::Sound { knots, xs, ys } => sound::read_sound(
             bytes,
             knots,
             xs,

@@ -1,2 +1,4 @@
 -- Laws of judging.
 pub mod JudgingLaws
+pub mod ChainLaws
+mod Controls

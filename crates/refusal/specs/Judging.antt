@@ -3,8 +3,7 @@ use mathlib.Core.Bool.{Bool, cond}
 use Prim.Native.Nat.{ℕ}
 use lib.Dec.{eqb}
 
--- `number` where the test fails, and what is judged next where it passes
-abbrev pub unless : Bool → ℕ → ℕ → ℕ
+abbrev pub unless : Bool → ℕ → ℕ → ℕ  -- `number` where the test fails, and what is judged next where it passes
 unless ok number next = cond ok next number
 
 -- what a call answers: its value where the number is 0, else the refusal by its number

@@ -1,78 +1,59 @@
 -- The numbers of refusal, each by a name, once (heading "Numbers of refusal").
 use Prim.Native.Nat.{ℕ}
 
--- nothing is refused
-abbrev pub accepted : ℕ
+abbrev pub accepted : ℕ  -- nothing is refused
 accepted = 0
 
--- the degree is none of 1, 2, 3
-abbrev pub degreeRefused : ℕ
+abbrev pub degreeRefused : ℕ  -- the degree is none of 1, 2, 3
 degreeRefused = 1
 
--- x and y differ in number, or there are too few points or too many
-abbrev pub pointCountRefused : ℕ
+abbrev pub pointCountRefused : ℕ  -- x and y differ in number, or there are too few points or too many
 pointCountRefused = 2
 
--- the number of knots does not go with points and degree
-abbrev pub knotCountRefused : ℕ
+abbrev pub knotCountRefused : ℕ  -- the number of knots does not go with points and degree
 knotCountRefused = 3
 
--- a knot too large, or below its forerunner
-abbrev pub knotOrderRefused : ℕ
+abbrev pub knotOrderRefused : ℕ  -- a knot too large, or below its forerunner
 knotOrderRefused = 4
 
--- an end whose m+1 knots differ, or two equal ends
-abbrev pub endsRefused : ℕ
+abbrev pub endsRefused : ℕ  -- an end whose m+1 knots differ, or two equal ends
 endsRefused = 5
 
--- a value that stands too often
-abbrev pub repeatsRefused : ℕ
+abbrev pub repeatsRefused : ℕ  -- a value that stands too often
 repeatsRefused = 6
 
--- a coordinate or a tangent off the grid
-abbrev pub rangeRefused : ℕ
+abbrev pub rangeRefused : ℕ  -- a coordinate or a tangent off the grid
 rangeRefused = 7
 
--- a parameter outside the domain
-abbrev pub parameterRefused : ℕ
+abbrev pub parameterRefused : ℕ  -- a parameter outside the domain
 parameterRefused = 8
 
--- a value that cannot be inserted
-abbrev pub insertionRefused : ℕ
+abbrev pub insertionRefused : ℕ  -- a value that cannot be inserted
 insertionRefused = 9
 
--- no place for one point more
-abbrev pub fullRefused : ℕ
+abbrev pub fullRefused : ℕ  -- no place for one point more
 fullRefused = 10
 
--- a new coordinate that is not whole
-abbrev pub notWholeRefused : ℕ
+abbrev pub notWholeRefused : ℕ  -- a new coordinate that is not whole
 notWholeRefused = 11
 
--- a value that is no inner knot
-abbrev pub notInnerRefused : ℕ
+abbrev pub notInnerRefused : ℕ  -- a value that is no inner knot
 notInnerRefused = 12
 
--- a knot without which no grid polygon gives the curve
-abbrev pub notRemovableRefused : ℕ
+abbrev pub notRemovableRefused : ℕ  -- a knot without which no grid polygon gives the curve
 notRemovableRefused = 13
 
--- a rectangle with crossed sides, or off the grid
-abbrev pub rectangleRefused : ℕ
+abbrev pub rectangleRefused : ℕ  -- a rectangle with crossed sides, or off the grid
 rectangleRefused = 14
 
--- a lent result list that is too short
-abbrev pub roomRefused : ℕ
+abbrev pub roomRefused : ℕ  -- a lent result list that is too short
 roomRefused = 15
 
--- bytes that are no record, or no job
-abbrev pub bytesRefused : ℕ
+abbrev pub bytesRefused : ℕ  -- bytes that are no record, or no job
 bytesRefused = 16
 
--- spline points that cannot be joined
-abbrev pub splinePointsRefused : ℕ
+abbrev pub splinePointsRefused : ℕ  -- spline points that cannot be joined
 splinePointsRefused = 17
 
--- a joined control point off the grid
-abbrev pub joinedRangeRefused : ℕ
+abbrev pub joinedRangeRefused : ℕ  -- a joined control point off the grid
 joinedRangeRefused = 18

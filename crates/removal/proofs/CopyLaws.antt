@@ -2,7 +2,6 @@
 use mathlib.Core.List.{List, [], _++_, append-nil}
 use mathlib.Core.Path.{_≡_, sym, ap, _∙_}
 use Prim.Native.Nat.{ℕ, _+_, _-_, _≤_, _<_}
-use native.Mathlib.Numerals.{add-one}
 use native.Mathlib.Omega.{arith}
 use lib.IntN.{ℤ, pos}
 use lib.ListN.{length, getD, take, drop, length-append, length-drop, drop-of-length-le, List·getD-append}
@@ -12,9 +11,6 @@ use Rattle.lent.proofs.ListLaws.{take-rest}
 use Rattle.lent.proofs.OverLaws.{over-whole}
 use Rattle.insertion.proofs.OrderLaws.{either}
 use Rattle.removal.specs.Axis.{BetweenSides}
-use Rattle.removal.specs.Polygon.{placeOf}
-use Rattle.removal.specs.Removal.{withoutOne}
-use Rattle.removal.proofs.WithoutLaws.{without-parts}
 
 -- a list in two parts, by its entries: k of the first part, then the second
 module _ {A : Type 0} (d : A) (first second : List A) (k : ℕ) (inside : k ≤ length first) where
@@ -74,13 +70,12 @@ sides-copied ps before list last start far order inside room front behind =
           ∙ getD-drop (far + 1) ps (j - far) (pos 0) ∙ ap (λ (k : ℕ). getD ps k (pos 0)) place;
     })
 
--- the knots round the first v
-pub value-removed : (v : ℕ) (ts before list last : List ℕ) (at : ℕ) → at ≡ placeOf v ts → at < length ts → length before + 1 ≡ length ts
+-- the entries round the one at `at`
+pub entry-removed : (ts before list last : List ℕ) (at : ℕ) → at < length ts → length before + 1 ≡ length ts
     → list ≡ over (take (length before) (take at ts)) before
     → last ≡ over (take (length (take (length list - at) (drop at list))) (take (length ts - (at + 1)) (drop (at + 1) ts))) (take (length list - at) (drop at list))
-    → take at list ++ (last ++ drop (length list - at) (drop at list)) ≡ withoutOne v ts
-value-removed v ts before list last at place inside room front behind =
+    → take at list ++ (last ++ drop (length list - at) (drop at list)) ≡ take at ts ++ drop (at + 1) ts
+entry-removed ts before list last at inside room front behind =
     copied-parts ts before list last at at (omega arith) inside room front behind
     ∙ ap (λ (l : List ℕ). take at l ++ drop (at + 1) ts) (fronted ts before list last at at (omega arith) inside room front behind)
     ∙ ap (λ (l : List ℕ). l ++ drop (at + 1) ts) (take-at (take at ts) (drop at before) at (length-take-le at ts (omega arith)))
-    ∙ rw (place, add-one (placeOf v ts)) (sym (without-parts v ts (omega arith)))

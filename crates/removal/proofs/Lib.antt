@@ -7,3 +7,4 @@ pub mod WalkLaws
 pub mod WithoutLaws
 pub mod PolygonLaws
 pub mod OutcomeLaws
+pub mod SentenceLaws

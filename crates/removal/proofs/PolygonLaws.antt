@@ -9,22 +9,25 @@ use lib.ListN.{length, getD}
 use lib.Seq.{ext-getD}
 use lib.Signed.{quotZ}
 use borrow.Author.Tests.{le-leb, eq-eqb, ne-eqb, lt-ltb}
+use Rattle.curve.specs.Lists.{Lists, lists, NeverFall}
+use Rattle.curve.proofs.ListLaws.{lists-same, same-xs, same-ys}
+use Rattle.curve.proofs.RoomLaws.{enough-all}
 use Rattle.grid.specs.Limits.{pointsMost, coordinateMost}
 use Rattle.grid.specs.Rows.{firstKnot, lastKnot, degreeOk, pointCountOk, knotCountOk, knotOrderOk, rangeOk, allOnGrid, occurrences, repeatsMost}
 use Rattle.grid.specs.Check.{Passes}
-use Rattle.grid.proofs.OrderLaws.{both}
+use Rattle.refusal.proofs.JudgingLaws.{both}
 use Rattle.grid.proofs.CheckLaws.{passes-tests, check-accepts}
 use Rattle.grid.proofs.SizeLaws.{sizes-of-passes}
 use Rattle.insertion.specs.Insertion.{knotsUpTo, insertionSpan, insertedKnots, insertedPoints, pointAt, wholePoints}
-use Rattle.insertion.specs.Judged.{valueOk, placeOk, wholeOk, roomOk, insertionNumber}
+use Rattle.insertion.specs.Judged.{valueOk, placeOk, wholeOk}
 use Rattle.insertion.proofs.OrderLaws.{either}
 use Rattle.insertion.proofs.SpanLaws.{knotsUpTo-below, upTo-least, upTo-most}
 use Rattle.insertion.proofs.KnotLaws.{insertedKnots-length, insertedKnots-before, insertedKnots-here, insertedKnots-behind}
 use Rattle.insertion.proofs.PointLaws.{insertedPoints-length}
-use Rattle.insertion.proofs.CheckedLaws.{rises-of-test, sizes-of-grid, grid-of-sizes, value-of-test}
+use Rattle.insertion.proofs.CheckedLaws.{rises-of-test, sizes-of-grid, grid-of-sizes, value-of-test, inside-of-ends}
 use Rattle.insertion.proofs.JudgedLaws.{Accepted, accepted-of-number, number-of-accepted}
 use Rattle.insertion.proofs.PassLaws.{order-back, ends-same, repeats-back, repeats-of-test, occurrences-inserted}
-use Rattle.removal.specs.Removal.{withoutOne, Reinserts, Removable}
+use Rattle.removal.specs.Removal.{withoutOne, Removes}
 use Rattle.removal.specs.Axis.{Reduced, Ranged, AxisReinserts}
 use Rattle.removal.specs.Polygon.{Inner}
 use Rattle.removal.proofs.EquationLaws.{reinserts-left, reinserts-forward, reduced-least}
@@ -60,28 +63,28 @@ module _ (m : ℕ) (ks : List ℕ) (v : ℕ) (ps : List ℤ) (s : Reduced m ks (
   axis-unique = ext-getD (pos 0) q p (omega (arith, hq .count, hp .count)) (λ j l. entries j (omega (arith, hq .count)))
 
 -- a polygon that gives the old curve back does so on each axis
-module _ (m v : ℕ) (ks : List ℕ) (px py : List ℤ) (ts : List ℕ) (xs ys : List ℤ) (h : Reinserts m v ks px py ts xs ys) where
-  tests : Accepted m ks px py v (length ts) (length xs) (length ys)
-  tests = accepted-of-number m ks px py v (length ts) (length xs) (length ys) (h .accepts)
+module _ (m v : ℕ) (ks : List ℕ) (px py : List ℤ) (ts : List ℕ) (xs ys : List ℤ) (h : Removes m v (lists ts xs ys) (lists ks px py)) where
+  tests : Accepted m (lists ks px py) v (lists ts xs ys)
+  tests = accepted-of-number m (lists ks px py) v (lists ts xs ys) (h .accepts)
 
   pub reinserts-xs : AxisReinserts m ks px v xs
   unfolding rangeOk wholeOk
   reinserts-xs =
       record {
-        count = sym (insertedPoints-length m ks px v) ∙ ap length (h .givesXs);
+        count = sym (insertedPoints-length m ks px v) ∙ ap length (same-xs (h .gives));
         range = sizes-of-grid px (both (allOnGrid px) (allOnGrid py) (passes-tests m ks px py (tests .passes) .range) .0);
         whole = both (wholePoints m ks px v) (wholePoints m ks py v) (tests .whole) .0;
-        points = h .givesXs;
+        points = same-xs (h .gives);
       }
 
   pub reinserts-ys : AxisReinserts m ks py v ys
   unfolding rangeOk wholeOk
   reinserts-ys =
       record {
-        count = sym (insertedPoints-length m ks py v) ∙ ap length (h .givesYs);
+        count = sym (insertedPoints-length m ks py v) ∙ ap length (same-ys (h .gives));
         range = sizes-of-grid py (both (allOnGrid px) (allOnGrid py) (passes-tests m ks px py (tests .passes) .range) .1);
         whole = both (wholePoints m ks px v) (wholePoints m ks py v) (tests .whole) .1;
-        points = h .givesYs;
+        points = same-ys (h .gives);
       }
 
   -- the fewer knots carry it
@@ -99,15 +102,33 @@ module _ (m v : ℕ) (ks : List ℕ) (px py : List ℤ) (ts : List ℕ) (xs ys :
       }
 
 -- two polygons that give the same curve back are equal
-pub reinserts-unique : (m v : ℕ) (ks : List ℕ) (px py qx qy : List ℤ) (ts : List ℕ) (xs ys : List ℤ)
-    → Reinserts m v ks px py ts xs ys → Reinserts m v ks qx qy ts xs ys → (px ≡ qx) × (py ≡ qy)
-reinserts-unique m v ks px py qx qy ts xs ys p q =
-    let s = sizes-of-passes m ks px py (tests m v ks px py ts xs ys p .passes) in
-    let x = reinserts-xs m v ks px py ts xs ys p in
-    let y = reinserts-ys m v ks px py ts xs ys p in (
-      axis-unique m ks v xs (reinserts-reduced m v ks px py ts xs ys p xs refl) px qx x (reinserts-xs m v ks qx qy ts xs ys q),
-      axis-unique m ks v ys (reinserts-reduced m v ks px py ts xs ys p ys (omega (arith, x .count, y .count, s .as-many))) py qy y (reinserts-ys m v ks qx qy ts xs ys q),
-    )
+pub removes-unique : (m v : ℕ) (c d e : Lists) → Removes m v c d → Removes m v c e → d ≡ e
+removes-unique m v c d e p q = lists-same same (axis (c .xs) refl (d .xs) (e .xs) x (u .0)) (axis (c .ys) as-many (d .ys) (e .ys) y (u .1))
+  where
+    same : d .knots ≡ e .knots
+    same = p .fewer ∙ sym (q .fewer)
+
+    x : AxisReinserts m (d .knots) (d .xs) v (c .xs)
+    x = reinserts-xs m v (d .knots) (d .xs) (d .ys) (c .knots) (c .xs) (c .ys) p
+
+    y : AxisReinserts m (d .knots) (d .ys) v (c .ys)
+    y = reinserts-ys m v (d .knots) (d .xs) (d .ys) (c .knots) (c .xs) (c .ys) p
+
+    u : AxisReinserts m (d .knots) (e .xs) v (c .xs) × AxisReinserts m (d .knots) (e .ys) v (c .ys)
+    u =
+        rw same (
+          reinserts-xs m v (e .knots) (e .xs) (e .ys) (c .knots) (c .xs) (c .ys) q,
+          reinserts-ys m v (e .knots) (e .xs) (e .ys) (c .knots) (c .xs) (c .ys) q,
+        )
+
+    as-many : length (c .ys) ≡ length (c .xs)
+    as-many =
+        let s = sizes-of-passes m (d .knots) (d .xs) (d .ys) (tests m v (d .knots) (d .xs) (d .ys) (c .knots) (c .xs) (c .ys) p .passes) in
+        omega (arith, x .count, y .count, s .as-many)
+
+    axis : (ps : List ℤ) → length ps ≡ length (c .xs) → (a b : List ℤ) → AxisReinserts m (d .knots) a v ps → AxisReinserts m (d .knots) b v ps → a ≡ b
+    axis ps long a b f g =
+        axis-unique m (d .knots) v ps (reinserts-reduced m v (d .knots) (d .xs) (d .ys) (c .knots) (c .xs) (c .ys) p ps long) a b f g
 
 -- the fewer knots of a curve that passes the check, at an inner knot v
 module _ (m : ℕ) (ts : List ℕ) (xs ys : List ℤ) (v : ℕ) (inner : Inner m ts xs ys v) where
@@ -135,7 +156,7 @@ module _ (m : ℕ) (ts : List ℕ) (xs ys : List ℤ) (v : ℕ) (inner : Inner m
   pub knot-behind : (j : ℕ) → knotsUpTo v (withoutOne v ts) ≤ j → getD ts (suc j) 0 ≡ getD (withoutOne v ts) j 0
   knot-behind j h = ap (λ (l : List ℕ). getD l (suc j) 0) (sym fewer-inserted) ∙ insertedKnots-behind (withoutOne v ts) v j h
 
-  rises : (a b : ℕ) → a ≤ b → b < length ts → getD ts a 0 ≤ getD ts b 0
+  rises : NeverFall ts
   rises = rises-of-test ts (passes-tests m ts xs ys (inner .passes) .order)
 
   pub fewer-left : m < knotsUpTo v (withoutOne v ts)
@@ -201,31 +222,27 @@ module _ (m : ℕ) (ts : List ℕ) (xs ys : List ℤ) (v : ℕ) (inner : Inner m
         (repeats-back m (withoutOne v ts) v fewer-left right (rw fewer-inserted (t .repeats)))
         (rw (grid-of-sizes px (x .range), grid-of-sizes py (y .range))))
 
-    pub polygon-reinserts : Reinserts m v (withoutOne v ts) px py ts xs ys
-    unfolding valueOk placeOk wholeOk roomOk
-    polygon-reinserts =
+    pub polygon-removes : Removes m v (lists ts xs ys) (lists (withoutOne v ts) px py)
+    unfolding valueOk placeOk wholeOk
+    polygon-removes =
         let s = sizes-of-passes m ts xs ys (inner .passes) in
         let size : length px ≡ length xs - 1 = omega (arith, x .count) in
         let high = fewer-reduced xs refl .high in
+        let gives = lists-same fewer-inserted (x .points) (y .points) in
         record {
+          fewer = refl;
           accepts =
-              number-of-accepted m (withoutOne v ts) px py v (length ts) (length xs) (length ys)
+              number-of-accepted m (lists (withoutOne v ts) px py) v (lists ts xs ys)
               (record {
                 passes = polygon-passes;
                 value = rw (
-                  lt-ltb (getD (withoutOne v ts) m 0) v (omega (arith, knot-before m fewer-left, inner .low)),
-                  lt-ltb v (getD (withoutOne v ts) (length px) 0) (rw size high),
+                  inside-of-ends (withoutOne v ts) m (length px) v (omega (arith, knot-before m fewer-left, inner .low)) (rw size high),
                   lt-ltb (occurrences v (withoutOne v ts)) m fewer-count,
                 );
                 place = lt-ltb (length px) pointsMost (omega (arith, s .most, x .count));
                 whole = rw (x .whole, y .whole);
-                room = rw (
-                  le-leb (length (withoutOne v ts) + 1) (length ts) (omega (arith, fewer-length)),
-                  le-leb (length px + 1) (length xs) (omega (arith, x .count)),
-                  le-leb (length py + 1) (length ys) (omega (arith, y .count)),
-                );
+                room =
+                    enough-all _ _ _ _ _ _ (omega (arith, ap length fewer-inserted)) (omega (arith, ap length (x .points))) (omega (arith, ap length (y .points)));
               });
-          givesKnots = fewer-inserted;
-          givesXs = x .points;
-          givesYs = y .points;
+          gives = gives;
         }

@@ -10,7 +10,7 @@ use lib.Seq.{getD-set-same, getD-set-other}
 use lib.Signed.{quotZ}
 use Rattle.grid.specs.Limits.{coordinateMost}
 use Rattle.grid.specs.Rows.{onGrid}
-use Rattle.grid.proofs.OrderLaws.{both}
+use Rattle.refusal.proofs.JudgingLaws.{both}
 use Rattle.signed.specs.Division.{divides}
 use Rattle.signed.proofs.DivisionLaws.{quot-of-product, product-divides, product-of-quot}
 use Rattle.insertion.specs.Insertion.{insertionSpan, pointAt, weightedSum}

@@ -1,43 +1,41 @@
--- The knots with one v fewer, in two parts; inserting v into them gives the knots again.
+-- Inserting v into the knots with one v fewer gives the knots again, and taking an inserted v away gives the old ones; those in front of the new one and those behind it are the fewer knots.
 use mathlib.Core.Bool.{Bool, true, false, cond}
 use mathlib.Core.List.{List, [], _∷_, _++_}
 use mathlib.Core.Path.{_≡_, refl, sym, ap, _∙_}
-use Prim.Native.Nat.{ℕ, zero, suc, _+_, _-_, _≤_, _<_}
-use native.Mathlib.Numerals.{add-one}
+use Prim.Native.Nat.{ℕ, suc, _≤_, _<_}
+use native.Mathlib.Nat.{le-refl}
 use native.Mathlib.Omega.{arith}
 use lib.Dec.{eqb, leb}
-use lib.ListN.{length, getD, take, drop, drop-of-length-le}
-use lib.Seq.{drop-cons}
-use borrow.Author.Tests.{eq-eqb, ne-eqb, eqb-true, le-leb, leb-true}
+use lib.ListN.{take, drop}
+use borrow.Author.Tests.{eqb-true, eq-eqb, le-leb, leb-true}
 use Rattle.grid.specs.Limits.{knotMost}
 use Rattle.grid.specs.Rows.{risesFrom, occurrences}
 use Rattle.grid.proofs.RepeatLaws.{rises-cons}
-use Rattle.insertion.specs.Insertion.{insertedKnots}
-use Rattle.insertion.proofs.OrderLaws.{either}
+use Rattle.insertion.specs.Insertion.{knotsUpTo, insertedKnots}
 use Rattle.removal.specs.Removal.{withoutOne}
-use Rattle.removal.specs.Polygon.{placeOf}
 
--- a value that stands somewhere has a first place
-pub place-present : (v : ℕ) (ts : List ℕ) → 0 < occurrences v ts → placeOf v ts < length ts
-unfolding placeOf occurrences
-place-present v [] h = absurd (omega arith)
-place-present v (t ∷ ts) h = go (eqb t v) (place-present v ts) h
+-- with v inserted, one knot more is up to v
+pub inserted-upTo : (v : ℕ) (ks : List ℕ) → knotsUpTo v (insertedKnots ks v) ≡ suc (knotsUpTo v ks)
+unfolding knotsUpTo insertedKnots
+inserted-upTo v [] = rw (le-leb v v (le-refl v))
+inserted-upTo v (t ∷ ks) = go (leb t v) refl (inserted-upTo v ks)
   where
-    go : (b : Bool) → (0 < occurrences v ts → placeOf v ts < length ts)
-        → 0 < cond b (suc (occurrences v ts)) (occurrences v ts) → cond b 0 (suc (placeOf v ts)) < suc (length ts)
-    go true rest s = omega arith
-    go false rest s = let r = rest s in omega arith
+    go : (b : Bool) → leb t v ≡ b → knotsUpTo v (insertedKnots ks v) ≡ suc (knotsUpTo v ks)
+        → knotsUpTo v (cond b (t ∷ insertedKnots ks v) (v ∷ t ∷ ks)) ≡ suc (cond b (suc (knotsUpTo v ks)) 0)
+    go true e rest = rw e (ap suc rest)
+    go false e rest = rw (le-leb v v (le-refl v), e)
 
--- what stands in front of the first v, and what stands behind it
-pub without-parts : (v : ℕ) (ts : List ℕ) → placeOf v ts < length ts → withoutOne v ts ≡ take (placeOf v ts) ts ++ drop (suc (placeOf v ts)) ts
-unfolding placeOf withoutOne
-without-parts v [] h = absurd (omega arith)
-without-parts v (t ∷ ts) h = go (eqb t v) (without-parts v ts) h
+-- the knots in front of the new one, and those behind it
+pub inserted-parts : (v : ℕ) (ks : List ℕ) → take (knotsUpTo v ks) (insertedKnots ks v) ++ drop (suc (knotsUpTo v ks)) (insertedKnots ks v) ≡ ks
+unfolding knotsUpTo insertedKnots
+inserted-parts v [] = refl
+inserted-parts v (t ∷ ks) = go (leb t v) (inserted-parts v ks)
   where
-    go : (b : Bool) → (placeOf v ts < length ts → withoutOne v ts ≡ take (placeOf v ts) ts ++ drop (suc (placeOf v ts)) ts) → cond b 0 (suc (placeOf v ts)) < suc (length ts)
-        → cond b ts (t ∷ withoutOne v ts) ≡ take (cond b 0 (suc (placeOf v ts))) (t ∷ ts) ++ drop (suc (cond b 0 (suc (placeOf v ts)))) (t ∷ ts)
-    go true rest s = refl
-    go false rest s = ap (λ (l : List ℕ). t ∷ l) (rest (omega arith))
+    go : (b : Bool) → take (knotsUpTo v ks) (insertedKnots ks v) ++ drop (suc (knotsUpTo v ks)) (insertedKnots ks v) ≡ ks
+        → take (cond b (suc (knotsUpTo v ks)) 0) (cond b (t ∷ insertedKnots ks v) (v ∷ t ∷ ks))
+        ++ drop (suc (cond b (suc (knotsUpTo v ks)) 0)) (cond b (t ∷ insertedKnots ks v) (v ∷ t ∷ ks)) ≡ t ∷ ks
+    go true rest = ap (λ (l : List ℕ). t ∷ l) rest
+    go false rest = refl
 
 -- a value that stands in the rest is not below its start
 present-above : (low v : ℕ) (ts : List ℕ) → risesFrom low ts ≡ true → 0 < occurrences v ts → low ≤ v
@@ -79,22 +77,16 @@ without-inserted low v (t ∷ ts) h s = go (eqb t v) refl (without-inserted t v 
     go false e rest s =
         rw (le-leb t v (present-above t v ts (p .1) s)) (ap (λ (l : List ℕ). t ∷ l) (rest s))
 
--- a walk from the left: it stops at the first v, goes on at any other knot, and ends with the list
-pub place-stops : (v : ℕ) (ts : List ℕ) (i : ℕ) → i < length ts → placeOf v ts ≡ i + placeOf v (drop i ts) → getD ts i 0 ≡ v → i ≡ placeOf v ts
-unfolding placeOf
-place-stops v ts i inside whole here =
-    let rest : placeOf v (drop i ts) ≡ 0 = rw (drop-cons ts i 0 inside, eq-eqb (getD ts i 0) v here) in
-    omega arith
+-- and back: v inserted and taken away again
+pub inserted-without : (low v : ℕ) (ks : List ℕ) → risesFrom low ks ≡ true → withoutOne v (insertedKnots ks v) ≡ ks
+unfolding withoutOne insertedKnots
+inserted-without low v [] h = rw (eq-eqb v v refl)
+inserted-without low v (t ∷ ks) h = go (leb t v) (eqb t v) refl (inserted-without t v ks (p .1))
+  where
+    p : (low ≤ t) × (risesFrom t ks ≡ true) × (t ≤ knotMost)
+    p = rises-cons low t ks h
 
-pub place-more : (v : ℕ) (ts : List ℕ) (i : ℕ) → i < length ts → placeOf v ts ≡ i + placeOf v (drop i ts) → (getD ts i 0 ≡ v → ⊥)
-    → placeOf v ts ≡ i + 1 + placeOf v (drop (i + 1) ts)
-unfolding placeOf
-place-more v ts i inside whole other =
-    let rest : placeOf v (drop i ts) ≡ suc (placeOf v (drop (suc i) ts)) = rw (drop-cons ts i 0 inside, ne-eqb (getD ts i 0) v other) in
-    rw (add-one i) (omega arith)
-
-pub place-none : (v : ℕ) (ts : List ℕ) (i : ℕ) → length ts ≤ i → placeOf v ts ≡ i + placeOf v (drop i ts) → i ≡ placeOf v ts
-unfolding placeOf
-place-none v ts i past whole =
-    let rest : placeOf v (drop i ts) ≡ 0 = rw (drop-of-length-le ts past) in
-    omega arith
+    go : (b e : Bool) → eqb t v ≡ e → withoutOne v (insertedKnots ks v) ≡ ks → withoutOne v (cond b (t ∷ insertedKnots ks v) (v ∷ t ∷ ks)) ≡ t ∷ ks
+    go false e same rest = rw (eq-eqb v v refl)
+    go true true same rest = let e = eqb-true t v same in rw same (inserted-front v ks (rw e at (p .1)) ∙ rw e)
+    go true false same rest = rw same (ap (λ (l : List ℕ). t ∷ l) rest)

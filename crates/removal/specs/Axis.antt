@@ -6,6 +6,7 @@ use Prim.Native.Nat.{ℕ, _+_, _-_, _≤_, _<_}
 use lib.IntN.{ℤ, pos, natAbs, _-ℤ_, _*ℤ_}
 use lib.ListN.{length, getD}
 use lib.Signed.{quotZ}
+use Rattle.curve.specs.Lists.{NeverFall}
 use Rattle.grid.specs.Limits.{coordinateMost}
 use Rattle.grid.specs.Rows.{onGrid}
 use Rattle.signed.specs.Division.{divides}
@@ -13,7 +14,7 @@ use Rattle.insertion.specs.Insertion.{insertionSpan, insertedPoints, wholePoint
 
 -- `ks` carries curves of `count` points into which v can be inserted
 pub record Reduced (m : ℕ) (ks : List ℕ) (count v : ℕ) : Type 0 where
-  pub rises : (a b : ℕ) → a ≤ b → b < length ks → getD ks a 0 ≤ getD ks b 0
+  pub rises : NeverFall ks
   pub degree : 1 ≤ m
   pub knots : length ks ≡ count + m + 1
   pub low : getD ks m 0 ≤ v

@@ -4,18 +4,14 @@ ghost use Prim.Native.Nat.{_+_, _-_, _<_};
 ghost use lib.IntN.{pos, _-ℤ_, _*ℤ_};
 ghost use lib.ListN.{length};
 ghost use lib.Signed.{quotZ};
-ghost use Rattle.grid.specs.Rows.{onGrid};
 ghost use Rattle.insertion.specs.Standing.{Weighed};
 ghost use Rattle.removal.specs.Axis.{leftFor, isPoint};
-
-// The limit of coordinates, 64 bits wide.
-const COORDINATE_MOST: i64 = grid::COORDINATE_MOST as i64;
 
 // whole·p - right·last: at most 2^48 either way, so nothing wraps.
 pub(crate) fn weighted_difference(whole: u16, p: i32, right: u16, last: i32) -> i64
     ensures answer { λ r. ⌜ r ≡ pos whole *ℤ p -ℤ pos right *ℤ last ⌝ }
 {
-    (whole as i64) * (p as i64) - (right as i64) * (last as i64)
+    signed::product(whole, p) - signed::product(right, last)
 }
 
 // What is left for P_j, by Q_j and P_{j-1}.
@@ -35,16 +31,6 @@ pub(crate) fn quotient(z: i64, d: u16) -> i64
     z / (d as i64)
 }
 
-// z is on the grid.
-pub(crate) fn on_grid(z: i64) -> bool
-    ensures answer { λ r. ⌜ r ≡ onGrid z ⌝ }
-{
-    if -COORDINATE_MOST <= z {
-        return z <= COORDINATE_MOST;
-    }
-    false
-}
-
 // z / d is a whole number on the grid.
 pub(crate) fn is_point(z: i64, d: u16) -> bool
     requires { ⌜ 0 < d ⌝ }
@@ -53,5 +39,5 @@ pub(crate) fn is_point(z: i64, d: u16) -> bool
     if !insertion::is_multiple(z, d) {
         return false;
     }
-    on_grid(quotient(z, d))
+    grid::on_grid_wide(quotient(z, d))
 }

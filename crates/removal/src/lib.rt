@@ -6,6 +6,7 @@ mod walk;
 ghost use mathlib.Core.Path.{_≡_};
 ghost use Prim.Native.Nat.{_+_, _-_};
 ghost use lib.ListN.{length};
+ghost use Rattle.curve.specs.Lists.{lists};
 ghost use Rattle.insertion.specs.Insertion.{insertionSpan};
 ghost use Rattle.removal.specs.Axis.{Reduced, Ranged, AxisOutcome};
 ghost use Rattle.removal.specs.Polygon.{Inner, PolygonOutcome};
@@ -44,10 +45,12 @@ pub fn remove_polygon(
     requires { ⌜ length (now «out_knots») + 1 ≡ length (now knots) ⌝ }
     requires { ⌜ length (now «out_xs») + 1 ≡ length (now xs) ⌝ }
     requires { ⌜ length (now «out_ys») + 1 ≡ length (now ys) ⌝ }
-    ensures answer { λ r. ⌜ PolygonOutcome m (now (knots .entry)) (now (xs .entry)) (now (ys .entry)) v (now («out_knots» .exit)) (now («out_xs» .exit)) (now («out_ys» .exit)) r ⌝ }
+    ensures answer { λ r. ⌜ PolygonOutcome m (lists (now (knots .entry)) (now (xs .entry)) (now (ys .entry))) v
+        (lists (now («out_knots» .exit)) (now («out_xs» .exit)) (now («out_ys» .exit))) r ⌝ }
 {
-    knots::remove_value(knots, v, out_knots);
-    let i = insertion::knots_up_to(out_knots, v) - 1;
+    let at = insertion::knots_up_to(knots, v) - 1;
+    knots::remove_at(knots, at, out_knots);
+    let i = at - 1;
     if !remove_axis(m, out_knots, xs, v, i, out_xs) {
         return false;
     }

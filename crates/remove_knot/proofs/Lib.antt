@@ -1,3 +1,4 @@
 -- Laws of the removal call.
 pub mod JudgedLaws
 pub mod OutcomeLaws
+pub mod SentenceLaws

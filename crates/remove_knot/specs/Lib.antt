@@ -1,3 +1,4 @@
--- The contract of removing a knot: when it is refused, and what it answers and leaves.
+-- The contract of removing a knot: when it is refused, what it answers and leaves, and its rows as sentences.
 pub mod Judged
 pub mod Outcome
+pub mod Sentences

@@ -1,46 +1,25 @@
--- What removing a knot answers and leaves in the three lent lists, case by case (headings "Inserting and removing a knot" and
--- "Numbers of refusal"). The cases shut each other out, and a polygon that gives the old points back is the only one, so no two outcomes differ.
-use mathlib.Core.Bool.{true, false}
-use mathlib.Core.List.{List}
+-- What removing a knot answers and leaves in the lent lists (headings "Inserting and removing a knot" and "Numbers of refusal"). The cases
+-- shut each other out, and a polygon that gives the old points back is the only one, so no two outcomes differ.
 use mathlib.Core.Path.{_≡_}
 use Prim.Native.Nat.{ℕ}
-use lib.IntN.{ℤ}
 use lib.ListN.{length}
-use Rattle.refusal.specs.Numbers.{notRemovableRefused, roomRefused}
-use Rattle.lent.specs.Lent.{over}
-use Rattle.handing.specs.Handing.{Kept}
-use Rattle.removal.specs.Removal.{withoutOne, Reinserts, Removable}
+use Rattle.refusal.specs.Numbers.{notRemovableRefused}
+use Rattle.curve.specs.Lists.{Lists}
+use Rattle.curve.specs.HandingOver.{roomNumber, HandsOut}
+use Rattle.removal.specs.Removal.{Removes, Removable}
 use Rattle.remove_knot.specs.declared.RemoveAnswer.{RemoveAnswer}
 use Rattle.remove_knot.specs.declared.RemoveAnswer.the-variants.{Removed, Refused}
-use Rattle.remove_knot.specs.Judged.{removalNumber, fewerRoomOk}
+use Rattle.remove_knot.specs.Judged.{removalNumber}
 
-pub data RemovalOutcome (m : ℕ) (ts : List ℕ) (xs ys : List ℤ) (v : ℕ) (knotsBefore : List ℕ) (xsBefore ysBefore : List ℤ)
-    (answer : RemoveAnswer) (knotsAfter : List ℕ) (xsAfter ysAfter : List ℤ) : Type 0 where
-  -- 1 to 7 or 12 applies: the number, and nothing has changed
-  refused : (removalNumber m ts xs ys v ≡ 0 → ⊥)
-      → answer ≡ Refused (removalNumber m ts xs ys v)
-      → Kept knotsBefore xsBefore ysBefore knotsAfter xsAfter ysAfter
-      → RemovalOutcome m ts xs ys v knotsBefore xsBefore ysBefore answer knotsAfter xsAfter ysAfter
+-- the number that removing v from c comes to, and the curve d without it; with a number above 0 nothing is said of d
+pub data RemovalComesTo (m : ℕ) (c : Lists) (v : ℕ) (lent : Lists) (number : ℕ) (d : Lists) : Type 0 where
+  -- 1 to 7 or 12 applies
+  refused : (removalNumber m c v ≡ 0 → ⊥) → number ≡ removalNumber m c v → RemovalComesTo m c v lent number d
   -- no polygon gives the old points back: 13
-  notRemovable : removalNumber m ts xs ys v ≡ 0
-      → (Removable m ts xs ys v → ⊥)
-      → answer ≡ Refused notRemovableRefused
-      → Kept knotsBefore xsBefore ysBefore knotsAfter xsAfter ysAfter
-      → RemovalOutcome m ts xs ys v knotsBefore xsBefore ysBefore answer knotsAfter xsAfter ysAfter
-  -- there is one, and a lent list is too short for it: 15
-  noRoom : removalNumber m ts xs ys v ≡ 0
-      → Removable m ts xs ys v
-      → fewerRoomOk ts xs ys (length knotsBefore) (length xsBefore) (length ysBefore) ≡ false
-      → answer ≡ Refused roomRefused
-      → Kept knotsBefore xsBefore ysBefore knotsAfter xsAfter ysAfter
-      → RemovalOutcome m ts xs ys v knotsBefore xsBefore ysBefore answer knotsAfter xsAfter ysAfter
-  -- there is one: its number of points, its knots and itself over what stood there before
-  removed : removalNumber m ts xs ys v ≡ 0
-      → (px py : List ℤ)
-      → Reinserts m v (withoutOne v ts) px py ts xs ys
-      → fewerRoomOk ts xs ys (length knotsBefore) (length xsBefore) (length ysBefore) ≡ true
-      → answer ≡ Removed (length px)
-      → knotsAfter ≡ over (withoutOne v ts) knotsBefore
-      → xsAfter ≡ over px xsBefore
-      → ysAfter ≡ over py ysBefore
-      → RemovalOutcome m ts xs ys v knotsBefore xsBefore ysBefore answer knotsAfter xsAfter ysAfter
+  notRemovable : removalNumber m c v ≡ 0 → (Removable m c v → ⊥) → number ≡ notRemovableRefused → RemovalComesTo m c v lent number d
+  -- d gives them back: 0, or 15 where a lent list is too short for it
+  removed : removalNumber m c v ≡ 0 → Removes m v c d → number ≡ roomNumber d lent → RemovalComesTo m c v lent number d
+
+-- the number of points that are left, or the refusal number; and the lent lists
+abbrev pub RemovalOutcome : ℕ → Lists → ℕ → Lists → RemoveAnswer → Lists → Type 0
+RemovalOutcome m c v before answer now = HandsOut (RemovalComesTo m c v before) (λ d. Removed (length (d .xs))) Refused before answer now

@@ -2,6 +2,7 @@
 mod judging;
 mod work;
 
+ghost use Rattle.curve.specs.Lists.{lists};
 ghost use Rattle.remove_knot.specs.Outcome.{RemovalOutcome};
 
 // The number of points after the removal, or why it is refused.
@@ -21,15 +22,17 @@ pub fn remove_knot(
     out_xs: &mut [i32],
     out_ys: &mut [i32],
 ) -> RemoveAnswer
-    ensures answer { λ r. ⌜ RemovalOutcome degree (now (knots .entry)) (now (xs .entry)) (now (ys .entry)) v (now («out_knots» .entry)) (now («out_xs» .entry)) (now («out_ys» .entry)) r (now («out_knots» .exit)) (now («out_xs» .exit)) (now («out_ys» .exit)) ⌝ }
+    ensures answer { λ r. ⌜ RemovalOutcome degree (lists (now (knots .entry)) (now (xs .entry)) (now (ys .entry))) v
+        (lists (now («out_knots» .entry)) (now («out_xs» .entry)) (now («out_ys» .entry))) r
+        (lists (now («out_knots» .exit)) (now («out_xs» .exit)) (now («out_ys» .exit))) ⌝ }
 {
     let number = judging::judge(degree, knots, xs, ys, v);
     if number != refusal::ACCEPTED {
         return RemoveAnswer::Refused(number);
     }
-    let mut work_knots = [0u16; 1028];
-    let mut work_xs = [0i32; 1024];
-    let mut work_ys = [0i32; 1024];
+    let mut work_knots = [0u16; grid::KNOTS_MOST];
+    let mut work_xs = [0i32; grid::POINTS_MOST];
+    let mut work_ys = [0i32; grid::POINTS_MOST];
     work::remove_within(
         degree as usize,
         knots,

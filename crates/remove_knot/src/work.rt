@@ -2,6 +2,7 @@
 ghost use mathlib.Core.Path.{_≡_};
 ghost use Prim.Native.Nat.{_+_, _≤_};
 ghost use lib.ListN.{length};
+ghost use Rattle.curve.specs.Lists.{lists};
 ghost use Rattle.removal.specs.Polygon.{Inner};
 ghost use Rattle.remove_knot.specs.Outcome.{RemovalOutcome};
 
@@ -23,13 +24,16 @@ pub(crate) fn remove_checked(
     requires { ⌜ length (now «work_knots») + 1 ≡ length (now knots) ⌝ }
     requires { ⌜ length (now «work_xs») + 1 ≡ length (now xs) ⌝ }
     requires { ⌜ length (now «work_ys») + 1 ≡ length (now ys) ⌝ }
-    ensures answer { λ r. ⌜ RemovalOutcome m (now (knots .entry)) (now (xs .entry)) (now (ys .entry)) v (now («out_knots» .entry)) (now («out_xs» .entry)) (now («out_ys» .entry)) r (now («out_knots» .exit)) (now («out_xs» .exit)) (now («out_ys» .exit)) ⌝ }
+    ensures answer { λ r. ⌜ RemovalOutcome m (lists (now (knots .entry)) (now (xs .entry)) (now (ys .entry))) v
+        (lists (now («out_knots» .entry)) (now («out_xs» .entry)) (now («out_ys» .entry))) r
+        (lists (now («out_knots» .exit)) (now («out_xs» .exit)) (now («out_ys» .exit))) ⌝ }
 {
     if !removal::remove_polygon(m, knots, xs, ys, v, work_knots, work_xs, work_ys) {
         return crate::RemoveAnswer::Refused(refusal::NOT_REMOVABLE);
     }
-    if !handing::hand_over(work_knots, work_xs, work_ys, out_knots, out_xs, out_ys) {
-        return crate::RemoveAnswer::Refused(refusal::ROOM);
+    let number = curve::hand_over(work_knots, work_xs, work_ys, out_knots, out_xs, out_ys);
+    if number != refusal::ACCEPTED {
+        return crate::RemoveAnswer::Refused(number);
     }
     crate::RemoveAnswer::Removed(work_xs.len())
 }
@@ -52,7 +56,9 @@ pub(crate) fn remove_within(
     requires { ⌜ length (now knots) ≤ length (now «work_knots») ⌝ }
     requires { ⌜ length (now xs) ≤ length (now «work_xs») ⌝ }
     requires { ⌜ length (now ys) ≤ length (now «work_ys») ⌝ }
-    ensures answer { λ r. ⌜ RemovalOutcome m (now (knots .entry)) (now (xs .entry)) (now (ys .entry)) v (now («out_knots» .entry)) (now («out_xs» .entry)) (now («out_ys» .entry)) r (now («out_knots» .exit)) (now («out_xs» .exit)) (now («out_ys» .exit)) ⌝ }
+    ensures answer { λ r. ⌜ RemovalOutcome m (lists (now (knots .entry)) (now (xs .entry)) (now (ys .entry))) v
+        (lists (now («out_knots» .entry)) (now («out_xs» .entry)) (now («out_ys» .entry))) r
+        (lists (now («out_knots» .exit)) (now («out_xs» .exit)) (now («out_ys» .exit))) ⌝ }
 {
     let count = knots.len() - 1;
     let n = xs.len() - 1;

@@ -1,4 +1,2 @@
 -- Laws of the parts of the text.
-pub mod CountLaws
 pub mod PartLaws
-pub mod ToldLaws

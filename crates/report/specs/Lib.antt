@@ -1,3 +1,2 @@
 -- The text of the program, a part at a time.
-pub mod Parts
-pub mod Told
+pub mod Part

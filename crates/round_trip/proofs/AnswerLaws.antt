@@ -7,7 +7,8 @@ use native.Mathlib.Omega.{arith}
 use lib.Dec.{eqb}
 use lib.IntN.{ℤ}
 use borrow.Author.Tests.{eqb-true, eqb-false}
-use Rattle.refusal.specs.Judging.{unless}
+use Rattle.refusal.specs.Judging.{answered}
+use Rattle.refusal.specs.Numbers.{roomRefused, bytesRefused}
 use Rattle.grid.specs.Check.{checkNumber, checkedThen}
 use Rattle.grid.proofs.CheckLaws.{checkedThen-split, checkNumber-most}
 
@@ -17,7 +18,7 @@ module _ (chk next : ℕ) where
   split-zero true t e = (eqb-true chk 0 t, e)
   split-zero false t e = absurd (eqb-false chk 0 t e)
 
-  split-most : (b : Bool) → chk ≤ 7 → next ≤ 15 → cond b next chk ≤ 15
+  split-most : (b : Bool) → chk ≤ 7 → next ≤ roomRefused → cond b next chk ≤ roomRefused
   split-most true h k = k
   split-most false h k = omega arith
 
@@ -25,12 +26,25 @@ module _ (m : ℕ) (ts : List ℕ) (xs ys : List ℤ) (next : ℕ) where
   pub checkedThen-zero : checkedThen m ts xs ys next ≡ 0 → (checkNumber m ts xs ys ≡ 0) × (next ≡ 0)
   checkedThen-zero e = split-zero (checkNumber m ts xs ys) next (eqb (checkNumber m ts xs ys) 0) refl (sym (checkedThen-split m ts xs ys next) ∙ e)
 
-  pub checkedThen-most : next ≤ 15 → checkedThen m ts xs ys next ≤ 15
+  pub checkedThen-most : next ≤ roomRefused → checkedThen m ts xs ys next ≤ roomRefused
   checkedThen-most h =
       rw (checkedThen-split m ts xs ys next)
       (split-most (checkNumber m ts xs ys) next (eqb (checkNumber m ts xs ys) 0) (checkNumber-most m ts xs ys) h)
 
--- a test's number, or what comes after it, is at most 15
-pub unless-within : (ok : Bool) (number next : ℕ) → number ≤ 15 → next ≤ 15 → unless ok number next ≤ 15
-unless-within true number next h k = k
-unless-within false number next h k = h
+module _ {A B : Type 0} (done : B → A) (refused : ℕ → A) where
+  -- an answer that is no refusal is the value, and nothing was refused
+  pub answered-value : (a : A) → ((n : ℕ) → a ≡ refused n → ⊥) → (number : ℕ) (v : B) → a ≡ answered done refused number v → (number ≡ 0) × (a ≡ done v)
+  answered-value a apart number v e = by (eqb number 0) refl e
+    where
+      by : (b : Bool) → eqb number 0 ≡ b → a ≡ cond b (done v) (refused number) → (number ≡ 0) × (a ≡ done v)
+      by true t same = (eqb-true number 0 t, same)
+      by false t same = absurd (apart number same)
+
+  -- a number of at most 15 gives no answer 16
+  pub never-sixteen : ((v : B) (n : ℕ) → done v ≡ refused n → ⊥) → ((n k : ℕ) → refused n ≡ refused k → n ≡ k)
+      → (number : ℕ) (v : B) → number ≤ roomRefused → answered done refused number v ≡ refused bytesRefused → ⊥
+  never-sixteen apart injective number v h e = by (eqb number 0) e
+    where
+      by : (b : Bool) → cond b (done v) (refused number) ≡ refused bytesRefused → ⊥
+      by true a = apart v bytesRefused a
+      by false a = let same : number ≡ bytesRefused = injective number bytesRefused a in omega arith

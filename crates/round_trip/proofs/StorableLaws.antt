@@ -9,10 +9,11 @@ use mir.Syntax.{w32}
 use mir.Val.{SFits}
 use mir.Facts.{sfits-lit}
 use Rattle.grid.specs.Check.{Passes}
-use Rattle.grid.specs.Limits.{coordinateMost}
+use Rattle.grid.specs.Limits.{coordinateMost, knotMost}
 use Rattle.checked.specs.Checked.{OnGrid, Checked}
 use Rattle.checked.proofs.GridLaws.{onGrid-size}
 use Rattle.checked.proofs.CheckedLaws.{checked-of-passes}
+use Rattle.curve.specs.Lists.{Lists}
 use Rattle.format.specs.Format.{form1, Storable}
 use Rattle.format.proofs.SizeLaws.{length-knots, length-coordinates}
 
@@ -28,22 +29,22 @@ all-fit zs h i = by (decLt i (length zs))
     by (yes k) = small (getD zs i (pos 0)) (onGrid-size (getD zs i (pos 0)) (h i k))
     by (no k) = rw (List·getD-eq-default zs (pos 0) {n = i} (omega arith)) (sfits-lit tt)
 
-knots-fit : (ts : List ℕ) → ((a : ℕ) → a < length ts → getD ts a 0 ≤ 16383) → (i : ℕ) → getD ts i 0 < 65536
+knots-fit : (ts : List ℕ) → ((a : ℕ) → a < length ts → getD ts a 0 ≤ knotMost) → (i : ℕ) → getD ts i 0 < 65536
 knots-fit ts h i = by (decLt i (length ts))
   where
     by : Dec (i < length ts) → getD ts i 0 < 65536
     by (yes k) = omega (arith, h i k)
     by (no k) = rw (List·getD-eq-default ts 0 {n = i} (omega arith)) (omega arith)
 
-pub passes-storable : (m : ℕ) (ts : List ℕ) (xs ys : List ℤ) → Passes m ts xs ys → Storable form1 m ts xs ys
-passes-storable m ts xs ys p =
-    let c : Checked m ts xs ys = checked-of-passes m ts xs ys p in
+pub passes-storable : (m : ℕ) (c : Lists) → Passes m (c .knots) (c .xs) (c .ys) → Storable form1 m c
+passes-storable m c p =
+    let ok : Checked m (c .knots) (c .xs) (c .ys) = checked-of-passes m (c .knots) (c .xs) (c .ys) p in
     record {
-      degree = omega (arith, c .sizes .degree-most);
-      knots = knots-fit ts (c .largest);
-      onX = all-fit xs (c .gridX);
-      onY = all-fit ys (c .gridY);
-      knotRoom = omega (arith, length-knots ts, c .sizes .knots, c .sizes .most, c .sizes .degree-most);
-      xRoom = omega (arith, length-coordinates xs, c .sizes .most);
-      yRoom = omega (arith, length-coordinates ys, c .sizes .most, c .sizes .as-many);
+      degree = omega (arith, ok .sizes .degree-most);
+      knots = knots-fit (c .knots) (ok .largest);
+      onX = all-fit (c .xs) (ok .gridX);
+      onY = all-fit (c .ys) (ok .gridY);
+      knotRoom = omega (arith, length-knots (c .knots), ok .sizes .knots, ok .sizes .most, ok .sizes .degree-most);
+      xRoom = omega (arith, length-coordinates (c .xs), ok .sizes .most);
+      yRoom = omega (arith, length-coordinates (c .ys), ok .sizes .most, ok .sizes .as-many);
     }

@@ -1,6 +1,6 @@
 -- The laws of rows and triangles at binary64 (heading "The point at a parameter"): coordinates up to 2 ^ 18 in size, differences up to 2 ^ 22,
 -- at most three rows. A row adds at most 2 ^ -32 of a grid step, so three rows stay below 2 ^ -30.
-use mathlib.Core.Path.{_≡_, refl}
+use mathlib.Core.Path.{_≡_}
 use Prim.Native.Nat.{ℕ, _+_, _*_, _^_, _≤_, _<_}
 use native.Mathlib.Nat.{le-refl, le-trans, lt-of-le-of-lt, add-le-add, mul-le-mul-right}
 use lib.IntN.{ℤ, pos}
@@ -10,13 +10,13 @@ use lib.Ieee.Scale.{finite}
 use Rattle.fractions.specs.Fraction.{over}
 use Rattle.fractions.specs.Order.{DistanceBelow}
 use Rattle.triangle.specs.FloatCell.{floatCell}
-use Rattle.rounding.proofs.CellError.{Room, cellIn}
+use Rattle.rounding.proofs.CellError.{Room}
 use Rattle.rounding.specs.FloatFraction.{floatFraction}
 use Rattle.rounding.proofs.RatioClass.{asFraction}
 use Rattle.rounding.proofs.FloatDistance.{apart-distance}
 use Rattle.rounding.proofs.TriangleNear.{Triangle, EntryNear, exactEntry, triangle-near}
 use Rattle.rounding.proofs.Distance.{Apart, near-apart}
-use Rattle.rounding.proofs.CellScale.{Sized, near-sized, cell-scaled}
+use Rattle.rounding.proofs.CellScale.{Sized, cell-scaled}
 
 -- the bound on coordinates and the largest difference (a knot difference counted in 256ths)
 abbrev pub largestCoordinate : ℕ
@@ -31,9 +31,6 @@ rowError = 2 ^ 1042
 
 abbrev pub largestSize : ℕ
 largestSize = largestCoordinate * 2 ^ low binary64 + 3 * rowError
-
-pub cell-is : (a b : ℕ) (l r : Float) → cellIn binary64 a b l r ≡ floatCell (pos a) (pos b) (pos (a + b)) l r
-cell-is a b l r = refl
 
 pub binary64-room : Room binary64 largestSize largestDifference rowError
 binary64-room = record { cast = lit≤ tt; fine = lit≤ tt; high = lit< tt }
@@ -59,14 +56,6 @@ triangle-distance rows first last left right zs entries few t r j R l h =
     near-apart binary64 (r * rowError) (2 ^ 30) (entries r j) q
     (lt-of-le-of-lt (mul-le-mul-right (2 ^ 30) (mul-le-mul-right rowError (le-trans R few))) (lit< tt)) (e .bounded .above-zero) (e .near) in
     (a .is-finite, apart-distance (2 ^ 30) (entries r j) q (lit< tt) (e .bounded .above-zero) a)
-
--- every entry is finite and small enough for the law below
-pub entry-sized : (rows first last : ℕ) (left right : ℕ → ℕ → ℕ) (zs : ℕ → ℤ) (entries : ℕ → ℕ → Float) → rows ≤ 3
-    → Triangle binary64 largestCoordinate largestDifference rows first last left right zs entries
-    → (r j : ℕ) → r ≤ rows → first + r ≤ j → j ≤ last → Sized binary64 largestSize (entries r j)
-entry-sized rows first last left right zs entries few t r j R l h =
-    let e = binary64-near rows first last left right zs entries few t r j R l h in
-    near-sized binary64 largestCoordinate (r * rowError) largestSize (entries r j) (exactEntry left right zs r j) (e .bounded) (size-room r (le-trans R few)) (e .near)
 
 -- differences counted in 256ths leave the cell's bits as they are
 pub cell-in-256ths : (a b : ℕ) (l r : Float) → 0 < a + b → (a + b) * 256 ≤ largestDifference → Sized binary64 largestSize l → Sized binary64 largestSize r

@@ -3,26 +3,36 @@
 ghost use mathlib.Core.Path.{_≡_};
 ghost use mathlib.Core.List.{List};
 ghost use Prim.Native.Nat.{ℕ, _+_, _-_, _≤_, _<_};
-ghost use lib.IntN.{ℤ};
-ghost use lib.ListN.{length};
+ghost use lib.IntN.{ℤ, pos};
+ghost use lib.Ieee.{ofInt, binary64};
+ghost use lib.ListN.{length, getD};
 ghost use Rattle.triangle.specs.FloatTriangle.{cellAt, coordinateOf};
 ghost use Rattle.rows.specs.Row.{HoldsRow};
+
+// Coordinate j as it enters the triangle.
+fn entry(ps: &[i32], j: usize) -> f64
+    requires { ⌜ j < length (now ps) ⌝ }
+    ensures answer { λ d. ⌜ d ≡ ofInt binary64 (getD (now (ps .entry)) j (pos 0)) ⌝ }
+{
+    ps[j] as f64
+}
 
 // Row 0: the carrying coordinates of the span, the last at place 3.
 fn first_row(ps: &[i32], degree: usize, span: usize) -> [f64; 4]
     requires { ⌜ (1 ≤ degree) × (degree ≤ 3) × (degree ≤ span) × (span < length (now ps)) ⌝ }
-    ensures row { λ d. ⌜ ((ts : List ℕ) (t : ℕ) → HoldsRow degree ts (now (ps .entry)) t span 0 d) ⌝ }
+    ensures answer { λ d. ⌜ ((ts : List ℕ) (t : ℕ) → HoldsRow degree ts (now (ps .entry)) t span 0 d) ⌝ }
 {
-    let third = ps[span - 1] as f64;
-    let last = ps[span] as f64;
+    let third = entry(ps, span - 1);
+    let last = entry(ps, span);
     if degree == 1 {
         return [0.0, 0.0, third, last];
     }
-    let second = ps[span - 2] as f64;
+    let second = entry(ps, span - 2);
     if degree == 2 {
         return [0.0, second, third, last];
     }
-    [ps[span - 3] as f64, second, third, last]
+    let first = entry(ps, span - 3);
+    [first, second, third, last]
 }
 
 // The cell of row r at j, from the two entries of the row before.
@@ -45,7 +55,8 @@ fn cell_at(knots: &[u16], degree: usize, r: usize, j: usize, t: u16, l: f64, d: 
 // Row r + 1 from row r: at each place the cell of the entry before it and its own.
 fn next_row(row: [f64; 4], knots: &[u16], degree: usize, span: usize, r: usize, t: u16) -> [f64; 4]
     requires { ⌜ (r < degree) × (degree ≤ 3) × (degree ≤ span) × (span + degree < length (now knots)) ⌝ }
-    ensures row { λ d. ⌜ ((ps : List ℤ) → HoldsRow degree (now (knots .entry)) ps t span r row → HoldsRow degree (now (knots .entry)) ps t span (r + 1) d) ⌝ }
+    ensures answer { λ d. ⌜ ((ps : List ℤ) → HoldsRow degree (now (knots .entry)) ps t span r row
+        → HoldsRow degree (now (knots .entry)) ps t span (r + 1) d) ⌝ }
 {
     let last = cell_at(knots, degree, r + 1, span, t, row[2], row[3]);
     if degree == r + 1 {

@@ -5,15 +5,9 @@ use Prim.Native.Nat.{ℕ, _+_, _≤_}
 use native.Mathlib.Omega.{arith}
 use lib.IntN.{ℤ, pos, negsuc, negℤ, natAbs, _-ℤ_}
 use lib.Signed.{leZ}
-use Rattle.signed.specs.Parts.{up, down}
 use Rattle.signed.proofs.PartLaws.{natAbs-parts, neg-up, neg-down}
 use Rattle.signed.proofs.OrderLaws.{leZ-true, le-leZ}
 use Rattle.signed.proofs.SizeLaws.{natAbs-neg, natAbs-add}
-
--- a number that is p less q has a size of at most p and q together
-pub natAbs-within : (z : ℤ) (p q : ℕ) → up z + q ≡ p + down z → natAbs z ≤ p + q
-natAbs-within (pos n) p q h = omega arith
-natAbs-within (negsuc n) p q h = omega arith
 
 pub natAbs-difference : (a b : ℤ) → natAbs (a -ℤ b) ≤ natAbs a + natAbs b
 natAbs-difference a b = omega (arith, natAbs-add a (negℤ b), natAbs-neg b)

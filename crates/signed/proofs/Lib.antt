@@ -8,6 +8,5 @@ pub mod FitLaws
 pub mod CastLaws
 pub mod ScaleLaws
 pub mod DivisionLaws
-pub mod RemainderLaws
 pub mod ReadLaws
 pub mod DifferenceLaws

@@ -1,7 +1,7 @@
 -- The order of whole numbers: from a test to the parts and back, and its laws as tests.
 use mathlib.Core.Bool.{Bool, true, false, not, true≢false, false≢true}
 use mathlib.Core.Path.{_≡_, refl, ap}
-use Prim.Native.Nat.{_+_, _-_, _≤_, _<_}
+use Prim.Native.Nat.{_+_, _≤_, _<_}
 use native.Mathlib.Omega.{arith}
 use lib.IntN.{ℤ, pos, negsuc}
 use lib.Signed.{leZ, ltZ}
@@ -41,13 +41,6 @@ le-leZ a b h = by-test (leZ a b) refl
     by-test true e = refl
     by-test false e = absurd (omega (arith, leZ-false a b e))
 
-pub lt-leZ : (a b : ℤ) → up b + down a < up a + down b → leZ a b ≡ false
-lt-leZ a b h = by-test (leZ a b) refl
-  where
-    by-test : (t : Bool) → leZ a b ≡ t → t ≡ false
-    by-test false e = refl
-    by-test true e = absurd (omega (arith, leZ-true a b e))
-
 pub lt-ltZ : (a b : ℤ) → up a + down b < up b + down a → ltZ a b ≡ true
 lt-ltZ a b h = by-test (ltZ a b) refl
   where
@@ -75,9 +68,6 @@ leZ-refl a = le-leZ a a (omega arith)
 
 pub leZ-trans : (a b c : ℤ) → leZ a b ≡ true → leZ b c ≡ true → leZ a c ≡ true
 leZ-trans a b c h k = le-leZ a c (omega (arith, leZ-true a b h, leZ-true b c k))
-
-pub leZ-antisym : (a b : ℤ) → leZ a b ≡ true → leZ b a ≡ true → a ≡ b
-leZ-antisym a b h k = parts-equal a b (omega (arith, leZ-true a b h, leZ-true b a k))
 
 pub leZ-total : (a b : ℤ) → leZ a b ≡ false → leZ b a ≡ true
 leZ-total a b h = le-leZ b a (omega (arith, leZ-false a b h))

@@ -3,7 +3,7 @@
 use mathlib.Core.Bool.{Bool, true, false, cond}
 use mathlib.Core.Path.{_≡_, refl, sym, _∙_}
 use Prim.Native.Nat.{ℕ, zero, suc, _+_, _*_, _-_}
-use native.Mathlib.Nat.{zero-mul, mul-zero}
+use native.Mathlib.Nat.{zero-mul}
 use native.Mathlib.Omega.{arith}
 use lib.Dec.{ltb}
 use lib.IntN.{ℤ, pos, negsuc, negℤ, natAbs, subℕ, _+ℤ_, _-ℤ_, _*ℤ_}
@@ -50,21 +50,3 @@ times-up (negsuc a) n = neg-up (pos (suc a * n)) ∙ sym (zero-mul n)
 pub times-down : (z : ℤ) (n : ℕ) → down (z *ℤ pos n) ≡ down z * n
 times-down (pos a) n = sym (zero-mul n)
 times-down (negsuc a) n = neg-down (pos (suc a * n))
-
--- any product
-pub product-up : (a b : ℤ) → up (a *ℤ b) ≡ up a * up b + down a * down b
-product-up (pos a) (pos b) = omega arith
-product-up (pos a) (negsuc b) = omega (arith, neg-up (pos (a * suc b)))
-product-up (negsuc a) (pos b) = omega (arith, neg-up (pos (suc a * b)))
-product-up (negsuc a) (negsuc b) = omega arith
-
-pub product-down : (a b : ℤ) → down (a *ℤ b) ≡ up a * down b + down a * up b
-product-down (pos a) (pos b) = omega arith
-product-down (pos a) (negsuc b) = omega (arith, neg-down (pos (a * suc b)))
-product-down (negsuc a) (pos b) = omega (arith, neg-down (pos (suc a * b)))
-product-down (negsuc a) (negsuc b) = omega arith
-
--- at most one part is not zero
-pub one-part : (z : ℤ) → up z * down z ≡ 0
-one-part (pos n) = mul-zero n
-one-part (negsuc n) = zero-mul (suc n)

@@ -1,13 +1,11 @@
 -- What a signed width holds, whichever it is: a number by its size, and sums, differences and products of bounded numbers.
-use mathlib.Core.Path.{_≡_}
 use Prim.Native.Nat.{ℕ, _+_, _*_, _^_, _≤_, _<_}
 use native.Mathlib.Nat.{mul-le-mul}
 use native.Mathlib.Omega.{arith}
 use lib.IntN.{ℤ, pos, negsuc, natAbs, _+ℤ_, _-ℤ_, _*ℤ_}
 use lib.Signed.{natAbs-le}
 use mir.Syntax.{Width}
-use mir.Val.{SFits, hbits, toZ, ofZ}
-use mir.Facts.{toZ-ofZ}
+use mir.Val.{SFits, hbits}
 use Rattle.signed.proofs.SizeLaws.{natAbs-add, natAbs-mul}
 use Rattle.signed.proofs.BoundLaws.{natAbs-difference}
 
@@ -18,10 +16,6 @@ module _ (w : Width) where
 
   pub size-of-sfits : (z : ℤ) → SFits w z → natAbs z ≤ 2 ^ hbits w
   size-of-sfits z f = natAbs-le z (f .sfits)
-
-  -- a number that was written and is read again
-  pub read-back : (z : ℤ) → natAbs z < 2 ^ hbits w → toZ w (ofZ w z) ≡ z
-  read-back z h = toZ-ofZ (sfits-of-size z h)
 
   module _ (a b : ℤ) (p q : ℕ) (h : natAbs a ≤ p) (k : natAbs b ≤ q) where
     pub sfits-sum : p + q < 2 ^ hbits w → SFits w (a +ℤ b)

@@ -4,6 +4,5 @@ use Prim.Native.Nat.{_%_}
 use lib.Dec.{eqb}
 use lib.IntN.{ℤ, natAbs}
 
--- d goes into z and leaves nothing, whatever the two signs
-unfoldable pub divides : ℤ → ℤ → Bool
+unfoldable pub divides : ℤ → ℤ → Bool  -- d goes into z and leaves nothing, whatever the two signs
 divides d z = eqb (natAbs z % natAbs d) 0

@@ -1,9 +1,10 @@
--- Spans worked by hand, by computation: the right end of the domain, doubled knots, ends that are not clamped, a fraction.
+-- Spans worked by hand, by computation: the right end of the domain, doubled knots, ends that are not clamped, a fraction; and what carries a span.
 use mathlib.Core.Bool.{true, false}
 use mathlib.Core.List.{List, [], _∷_}
 use mathlib.Core.Path.{_≡_, refl}
 use Prim.Native.Nat.{ℕ}
-use Rattle.span.specs.Span.{spanOf, inDomain}
+use lib.IntN.{pos}
+use Rattle.span.specs.Span.{spanOf, inDomain, strictlyInside, carryingOf}
 
 -- one span from 0 to 4, degree 3
 abbrev one : List ℕ
@@ -52,3 +53,20 @@ half-past-the-end = refl
 at-the-end : inDomain one 3 3 8 2 ≡ true
 unfolding inDomain
 at-the-end = refl
+
+-- strictly inside: neither end, and what lies between them
+left-end-not-inside : strictlyInside two 2 4 0 ≡ false
+unfolding strictlyInside
+left-end-not-inside = refl
+
+between-the-ends : strictlyInside two 2 4 3 ≡ true
+unfolding strictlyInside
+between-the-ends = refl
+
+right-end-not-inside : strictlyInside two 2 4 4 ≡ false
+unfolding strictlyInside
+right-end-not-inside = refl
+
+-- the second span of a curve with points 10, 11, 12, 13 is carried by the last three
+carried-by : carryingOf 2 3 (pos 10 ∷ pos 11 ∷ pos 12 ∷ pos 13 ∷ []) ≡ pos 11 ∷ pos 12 ∷ pos 13 ∷ []
+carried-by = refl

@@ -1,3 +1,4 @@
--- Laws of the span rule, and spans worked by hand.
+-- Laws of the span rule, its sentences, and spans worked by hand.
 pub mod SpanLaws
+pub mod SentenceLaws
 mod Controls

@@ -14,16 +14,16 @@ use lib.ListN.{length, getD, List·getD-eq-default}
 use Rattle.span.specs.Span.{startsAt, IsSpan, spanOf, inDomain}
 
 -- the test says what it says
-pub startsAt-of : (ts : List ℕ) (p q k : ℕ) → getD ts k 0 * q ≤ p → getD ts k 0 < getD ts (k + 1) 0 → startsAt ts p q k ≡ true
+startsAt-of : (ts : List ℕ) (p q k : ℕ) → getD ts k 0 * q ≤ p → getD ts k 0 < getD ts (k + 1) 0 → startsAt ts p q k ≡ true
 startsAt-of ts p q k a b = simp (le-leb _ _ a, lt-ltb _ _ b)
 
-pub startsAt-says : (ts : List ℕ) (p q k : ℕ) → startsAt ts p q k ≡ true → (getD ts k 0 * q ≤ p) × (getD ts k 0 < getD ts (k + 1) 0)
+startsAt-says : (ts : List ℕ) (p q k : ℕ) → startsAt ts p q k ≡ true → (getD ts k 0 * q ≤ p) × (getD ts k 0 < getD ts (k + 1) 0)
 startsAt-says ts p q k e =
     let both = and-eq-true-iff (leb (getD ts k 0 * q) p) (ltb (getD ts k 0) (getD ts (k + 1) 0)) .0 e in
     (leb-true _ _ (both .0), ltb-true _ _ (both .1))
 
 -- where knot k is at most the parameter and no span begins, the next knot is no larger
-pub startsAt-not : (ts : List ℕ) (p q k : ℕ) → startsAt ts p q k ≡ false → getD ts k 0 * q ≤ p → getD ts (k + 1) 0 ≤ getD ts k 0
+startsAt-not : (ts : List ℕ) (p q k : ℕ) → startsAt ts p q k ≡ false → getD ts k 0 * q ≤ p → getD ts (k + 1) 0 ≤ getD ts k 0
 startsAt-not ts p q k e a = ltb-false _ _ (simp (le-leb _ _ a) at e)
 
 -- no span begins at the last knot or past it
@@ -124,7 +124,7 @@ module _ (ts : List ℕ) (m n p q i : ℕ) (s : IsSpan ts m n p q i) (past : get
       falls early (yes h) = h
       falls early (no g) = absurd (omega (arith, s .largest (i + d + 1) (omega arith) early (omega arith)))
 
-  pub span-reach : getD ts (n + 1) 0 ≤ getD ts (i + 1) 0
+  span-reach : getD ts (n + 1) 0 ≤ getD ts (i + 1) 0
   span-reach =
       let ends : i + (n - i) ≡ n = omega (arith, s .to) in
       rw ends at (none-larger (n - i) (omega (arith, s .to)))
@@ -136,14 +136,6 @@ span-holds ts m n p q i s high = (s .starts, by (decLe (getD ts (i + 1) 0 * q) p
   where
     by : Dec (getD ts (i + 1) 0 * q ≤ p) → p ≤ getD ts (i + 1) 0 * q
     by (yes h) = le-trans high (mul-le-mul-right q (span-reach ts m n p q i s h))
-    by (no h) = omega arith
-
--- left of the domain's right end the span is half open: p/q < t_{i+1}
-pub span-below : (ts : List ℕ) (m n p q i : ℕ) → IsSpan ts m n p q i → p < getD ts (n + 1) 0 * q → p < getD ts (i + 1) 0 * q
-span-below ts m n p q i s high = by (decLe (getD ts (i + 1) 0 * q) p)
-  where
-    by : Dec (getD ts (i + 1) 0 * q ≤ p) → p < getD ts (i + 1) 0 * q
-    by (yes h) = absurd (omega (arith, mul-le-mul-right q (span-reach ts m n p q i s h)))
     by (no h) = omega arith
 
 -- the test of the domain says what it says

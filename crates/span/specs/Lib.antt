@@ -1,2 +1,3 @@
 -- The span of a parameter, and the domain.
 pub mod Span
+pub mod Sentences

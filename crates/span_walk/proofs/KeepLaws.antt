@@ -33,7 +33,7 @@ keep-upTo test m i h =
     rw (e, upFrom-next m (i - m), f) (keep-append test (upFrom m (i - m)) (i ∷ []))
 
 -- a test that passes less often keeps fewer
-keep-fewer : (test wide : ℕ → Bool) → ((i : ℕ) → test i ≡ true → wide i ≡ true) → (l : List ℕ) → length (keep test l) ≤ length (keep wide l)
+pub keep-fewer : (test wide : ℕ → Bool) → ((i : ℕ) → test i ≡ true → wide i ≡ true) → (l : List ℕ) → length (keep test l) ≤ length (keep wide l)
 unfolding keep
 keep-fewer test wide h [] = omega arith
 keep-fewer test wide h (i ∷ l) = by (test i) (wide i) (h i) (keep-fewer test wide h l)

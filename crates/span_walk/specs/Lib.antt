@@ -1,2 +1,4 @@
--- The spans of a curve whose boxes meet a rectangle.
+-- The spans of a curve whose boxes meet a rectangle, and the lists that receive their knots.
 pub mod SpansMet
+pub mod SpanLists
+pub mod Sentences

@@ -1,29 +1,37 @@
 -- What the list call answers (headings "Spans to check", "Numbers of refusal"): 1 to 7, then 14, then 15; else the number of spans.
-use mathlib.Core.Bool.{cond, _&&_}
-use mathlib.Core.List.{List}
+-- `m` is the degree, `c` the curve's lists, `clamp` the rectangle.
+use mathlib.Core.Bool.{_&&_}
 use Prim.Native.Nat.{ℕ}
-use lib.Dec.{leb, eqb}
-use lib.IntN.{ℤ}
+use lib.Dec.{leb}
 use lib.ListN.{length}
-use Rattle.refusal.specs.Judging.{unless}
+use Rattle.refusal.specs.Judging.{unless, answered}
 use Rattle.refusal.specs.Numbers.{accepted, rectangleRefused, roomRefused}
+use Rattle.curve.specs.Lists.{Lists}
 use Rattle.grid.specs.Check.{checkedThen}
 use Rattle.grid.specs.Rows.{rectangleOk}
-use Rattle.span_walk.specs.SpansMet.{spanCount, metBy}
+use Rattle.span_walk.specs.SpansMet.{spanCount, spansMet}
+use Rattle.span_walk.specs.SpanLists.{SpanLists, knotsMet, spansHandedOver}
 use Rattle.boxes.specs.declared.Rectangle.{Rectangle}
 use Rattle.spans_met.specs.declared.SpansAnswer.{SpansAnswer}
 use Rattle.spans_met.specs.declared.SpansAnswer.the-variants.{Listed, Refused}
 
--- the refusal number; `lows` and `highs` are the places of the two lent lists, each as many as there are non-empty spans
-unfoldable pub listRefusal : ℕ → List ℕ → List ℤ → List ℤ → Rectangle → ℕ → ℕ → ℕ
-listRefusal m ts xs ys clamp lows highs =
-    checkedThen m ts xs ys
+-- the number of refusal where the two lent lists have so many places: each must have as many as there are non-empty spans
+unfoldable pub numberWithPlaces : ℕ → Lists → Rectangle → ℕ → ℕ → ℕ
+numberWithPlaces m c clamp lowPlaces highPlaces =
+    checkedThen m (c .knots) (c .xs) (c .ys)
     (unless (rectangleOk (clamp .«low_x») (clamp .«high_x») (clamp .«low_y») (clamp .«high_y»)) rectangleRefused
-    (unless (leb (spanCount m ts (length xs)) lows && leb (spanCount m ts (length xs)) highs) roomRefused accepted))
+    (unless (leb (spanCount m (c .knots) (length (c .xs))) lowPlaces && leb (spanCount m (c .knots) (length (c .xs))) highPlaces)
+    roomRefused accepted))
+
+abbrev pub listNumber : ℕ → Lists → Rectangle → SpanLists → ℕ  -- the number of refusal with these lent lists
+listNumber m c clamp lent = numberWithPlaces m c clamp (length (lent .lows)) (length (lent .highs))
 
 -- the answer: how many spans were listed, or the number of refusal
-unfoldable pub listAnswer : ℕ → List ℕ → List ℤ → List ℤ → Rectangle → ℕ → ℕ → SpansAnswer
-listAnswer m ts xs ys clamp lows highs =
-    cond (eqb (listRefusal m ts xs ys clamp lows highs) accepted)
-    (Listed (length (metBy clamp m ts xs ys)))
-    (Refused (listRefusal m ts xs ys clamp lows highs))
+abbrev pub listAnswer : ℕ → Lists → Rectangle → SpanLists → SpansAnswer
+listAnswer m c clamp lent =
+    answered Listed Refused (listNumber m c clamp lent) (length (spansMet clamp m (c .knots) (c .xs) (c .ys)))
+
+-- the two lent lists afterwards: the two knots of each span to check in front, or as they were found
+abbrev pub listed : ℕ → Lists → Rectangle → SpanLists → SpanLists
+listed m c clamp before =
+    spansHandedOver (listNumber m c clamp before) (knotsMet clamp m (c .knots) (c .xs) (c .ys)) before

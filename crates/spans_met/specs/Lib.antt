@@ -1,2 +1,4 @@
--- The answer of the list call.
+-- The answer of the list call, and what it leaves.
 pub mod Answer
+pub mod Outcome
+pub mod Sentences

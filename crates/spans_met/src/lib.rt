@@ -1,10 +1,9 @@
 // The list of spans that may meet a clamp.
 pub use boxes::Rectangle;
 ghost use mathlib.Core.Path.{_≡_};
-ghost use lib.ListN.{length};
-ghost use Rattle.lent.specs.Lent.{after};
-ghost use Rattle.spans_met.specs.Answer.{listRefusal, listAnswer};
-ghost use Rattle.span_walk.specs.SpansMet.{metBy, lowKnots, highKnots};
+ghost use Rattle.curve.specs.Lists.{lists};
+ghost use Rattle.span_walk.specs.SpanLists.{spanLists};
+ghost use Rattle.spans_met.specs.Answer.{listAnswer, listed};
 
 // How many spans were listed, or the number of refusal.
 pub enum SpansAnswer {
@@ -23,9 +22,11 @@ pub fn list_spans_met(
     lows: &mut [u16],
     highs: &mut [u16],
 ) -> SpansAnswer
-    ensures answer { λ r. ⌜ r ≡ listAnswer degree (now (knots .entry)) (now (xs .entry)) (now (ys .entry)) clamp (length (now (lows .entry))) (length (now (highs .entry))) ⌝ }
-    ensures lows { λ r. ⌜ now (lows .exit) ≡ after (listRefusal degree (now (knots .entry)) (now (xs .entry)) (now (ys .entry)) clamp (length (now (lows .entry))) (length (now (highs .entry)))) (lowKnots (now (knots .entry)) (metBy clamp degree (now (knots .entry)) (now (xs .entry)) (now (ys .entry)))) (now (lows .entry)) ⌝ }
-    ensures highs { λ r. ⌜ now (highs .exit) ≡ after (listRefusal degree (now (knots .entry)) (now (xs .entry)) (now (ys .entry)) clamp (length (now (lows .entry))) (length (now (highs .entry)))) (highKnots (now (knots .entry)) (metBy clamp degree (now (knots .entry)) (now (xs .entry)) (now (ys .entry)))) (now (highs .entry)) ⌝ }
+    ensures answer { λ r. ⌜ r ≡ listAnswer degree (lists (now (knots .entry)) (now (xs .entry)) (now (ys .entry))) clamp
+        (spanLists (now (lows .entry)) (now (highs .entry))) ⌝ }
+    ensures result { λ r. ⌜ spanLists (now (lows .exit)) (now (highs .exit))
+        ≡ listed degree (lists (now (knots .entry)) (now (xs .entry)) (now (ys .entry))) clamp
+        (spanLists (now (lows .entry)) (now (highs .entry))) ⌝ }
 {
     let number = grid::check(degree, knots, xs, ys);
     if number != refusal::ACCEPTED {
@@ -42,6 +43,6 @@ pub fn list_spans_met(
     if highs.len() < places {
         return SpansAnswer::Refused(refusal::ROOM);
     }
-    let count = span_walk::fill(knots, xs, ys, m, clamp, lows, highs);
+    let count = span_listing::list_met(knots, xs, ys, m, clamp, lows, highs);
     SpansAnswer::Listed(count)
 }

@@ -6,15 +6,17 @@ use Prim.Native.Nat.{ℕ}
 use lib.IntN.{ℤ, pos}
 use Rattle.refusal.specs.Numbers.{accepted}
 use Rattle.grid.specs.Check.{checkedThen}
-use Rattle.grid.specs.Rows.{degreeOk, pointCountOk, knotCountOk, knotOrderOk, risesFrom, endsOk, allAre, repeatsOk, repeatsWithin, repeatsMost, occurrences, rangeOk, allOnGrid, onGrid, rectangleOk}
+use Rattle.grid.specs.Rows.{degreeOk, pointCountOk, knotCountOk, knotOrderOk, risesFrom, endsOk, allAre, repeatsOk, repeatsWithin, repeatsMost, occurrences, rangeOk, allOnGrid, onGrid, axisOk, rectangleOk}
+use Rattle.curve.specs.Lists.{lists}
 use Rattle.boxes.specs.declared.Rectangle.{Rectangle}
 use Rattle.boxes.specs.Meeting.{someAtMost, someAtLeast, meetsOnAxis}
 use Rattle.fractions.specs.Fraction.{sum, product, negation, turned, reciprocal}
 use Rattle.splines.specs.Basis.{basis, sumOf, curveAt}
 use Rattle.exact.specs.ExactPoint.{exactCoordinate}
 use Rattle.span.specs.Span.{spanOf, inDomain}
-use Rattle.span_walk.specs.SpansMet.{upFrom, keep, boxMeets, spanCount, spansMet, metBy, lowKnots, highKnots}
-use Rattle.spans_met.specs.Answer.{listRefusal}
+use Rattle.span_walk.specs.SpansMet.{upFrom, keep, boxMeets, spanCount, spansMet, lowKnots, highKnots}
+use Rattle.span_walk.specs.SpanLists.{spanLists}
+use Rattle.spans_met.specs.Answer.{numberWithPlaces, listNumber}
 use Rattle.spans_met_exact.specs.Crossing.{InClamp}
 
 abbrev knotsA : List ℕ
@@ -30,8 +32,8 @@ abbrev clamp : Rectangle
 clamp = record { «low_x» = pos 2; «high_x» = pos 3; «low_y» = pos 5; «high_y» = pos 9 }
 
 -- the call refuses nothing
-clamp-accepted : listRefusal 3 knotsA xsA ysA clamp 1 1 ≡ accepted
-unfolding listRefusal checkedThen degreeOk pointCountOk knotCountOk knotOrderOk risesFrom endsOk allAre repeatsOk repeatsWithin repeatsMost occurrences rangeOk allOnGrid onGrid rectangleOk spanCount keep upFrom
+clamp-accepted : listNumber 3 (lists knotsA xsA ysA) clamp (spanLists (0 ∷ []) (0 ∷ [])) ≡ accepted
+unfolding numberWithPlaces checkedThen degreeOk pointCountOk knotCountOk knotOrderOk risesFrom endsOk allAre repeatsOk repeatsWithin repeatsMost occurrences rangeOk allOnGrid onGrid axisOk rectangleOk spanCount keep upFrom
 clamp-accepted = refl
 
 -- 3/2 lies in the domain
@@ -48,7 +50,7 @@ point-inside = record {
 }
 
 -- the list holds span 3, from 0 to 4
-span-listed : metBy clamp 3 knotsA xsA ysA ≡ 3 ∷ []
+span-listed : spansMet clamp 3 knotsA xsA ysA ≡ 3 ∷ []
 unfolding spansMet keep upFrom boxMeets meetsOnAxis someAtMost someAtLeast
 span-listed = refl
 

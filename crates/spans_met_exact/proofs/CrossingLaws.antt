@@ -1,6 +1,6 @@
 -- Every crossing is reported: the span of a parameter at which the exact point lies in the clamp is not empty, its box meets the clamp on both
 -- axes, so it is on the list.
-use mathlib.Core.Bool.{Bool, true, _&&_}
+use mathlib.Core.Bool.{true}
 use mathlib.Core.List.{List}
 use mathlib.Core.Path.{_≡_, refl, sym, _∙_}
 use Prim.Native.Nat.{ℕ, _+_, _-_, _<_}
@@ -13,28 +13,32 @@ use Rattle.refusal.specs.Numbers.{accepted}
 use Rattle.grid.specs.Check.{Passes, checkNumber}
 use Rattle.checked.specs.Checked.{Checked}
 use Rattle.checked.proofs.CheckedLaws.{checked-of-passes}
+use Rattle.curve.specs.Lists.{lists}
 use Rattle.boxes.specs.declared.Rectangle.{Rectangle}
 use Rattle.span.specs.Span.{spanOf, inDomain}
 use Rattle.span.proofs.SpanLaws.{span-holds, inDomain-says}
 use Rattle.exact.proofs.DomainLaws.{domain-span, domain-carried}
-use Rattle.span_walk.specs.SpansMet.{nonEmpty, boxMeets, spansMet, metBy, lowKnots, highKnots}
-use Rattle.spans_met.specs.Answer.{listRefusal}
-use Rattle.spans_met.proofs.AnswerLaws.{refusal-curve}
+use Rattle.span_walk.specs.SpansMet.{boxMeets, toCheck, spansMet, lowKnots, highKnots}
+use Rattle.span_walk.specs.SpanLists.{SpanLists}
+use Rattle.span_walk.specs.Sentences.{Stands}
+use Rattle.span_walk.proofs.ListedLaws.{keep-has, map-at}
+use Rattle.spans_met.specs.Answer.{listNumber}
+use Rattle.spans_met.proofs.AnswerLaws.{number-curve}
 use Rattle.spans_met_exact.specs.Crossing.{InClamp, ReportedAt, EveryCrossingReported}
-use Rattle.spans_met_exact.proofs.ListedLaws.{Stands, keep-has, map-at}
 use Rattle.spans_met_exact.proofs.MeetsLaws.{exact-meets}
 
 -- a call that refuses nothing has a curve that passes the check
-accepted-passes : (m : ℕ) (ts : List ℕ) (xs ys : List ℤ) (clamp : Rectangle) (lows highs : ℕ) → listRefusal m ts xs ys clamp lows highs ≡ accepted → Passes m ts xs ys
-accepted-passes m ts xs ys clamp lows highs e = by (ℕ-discrete (checkNumber m ts xs ys) 0)
+accepted-passes : (m : ℕ) (ts : List ℕ) (xs ys : List ℤ) (clamp : Rectangle) (lent : SpanLists)
+    → listNumber m (lists ts xs ys) clamp lent ≡ accepted → Passes m ts xs ys
+accepted-passes m ts xs ys clamp lent e = by (ℕ-discrete (checkNumber m ts xs ys) 0)
   where
     by : Dec (checkNumber m ts xs ys ≡ 0) → Passes m ts xs ys
     by (yes h) = h
-    by (no h) = absurd (h (sym (refusal-curve m ts xs ys clamp lows highs h) ∙ e))
+    by (no h) = absurd (h (sym (number-curve m ts xs ys clamp (length (lent .lows)) (length (lent .highs)) h) ∙ e))
 
 module _ (m : ℕ) (ts : List ℕ) (xs ys : List ℤ) (clamp : Rectangle) (c : Checked m ts xs ys) (p q : ℕ) (above : 0 < q) (inside : inDomain ts m (length xs - 1) p q ≡ true) where
   -- the box of the parameter's span meets the clamp
-  crossing-meets : InClamp clamp m ts xs ys p q → boxMeets (clamp .«low_x») (clamp .«high_x») (clamp .«low_y») (clamp .«high_y») m xs ys (spanOf ts m (length xs - 1) p q) ≡ true
+  crossing-meets : InClamp clamp m ts xs ys p q → boxMeets clamp m xs ys (spanOf ts m (length xs - 1) p q) ≡ true
   unfolding boxMeets
   crossing-meets hit =
       rw (
@@ -43,11 +47,11 @@ module _ (m : ℕ) (ts : List ℕ) (xs ys : List ℤ) (clamp : Rectangle) (c : C
       )
 
   -- so that span is listed
-  crossing-listed : InClamp clamp m ts xs ys p q → Stands (metBy clamp m ts xs ys) (spanOf ts m (length xs - 1) p q)
+  crossing-listed : InClamp clamp m ts xs ys p q → Stands (spansMet clamp m ts xs ys) (spanOf ts m (length xs - 1) p q)
   unfolding spansMet
   crossing-listed hit =
       let s = domain-span m ts xs ys c p q inside in
-      keep-has (λ i. nonEmpty ts i && boxMeets (clamp .«low_x») (clamp .«high_x») (clamp .«low_y») (clamp .«high_y») m xs ys i) m (length xs - m) (spanOf ts m (length xs - 1) p q) (s .from) (omega (arith, s .to, c .sizes .enough)) (rw (lt-ltb _ _ (s .wide)) (crossing-meets hit))
+      keep-has (toCheck clamp m ts xs ys) m (length xs - m) (spanOf ts m (length xs - 1) p q) (s .from) (omega (arith, s .to, c .sizes .enough)) (rw (lt-ltb _ _ (s .wide)) (crossing-meets hit))
 
   -- and its two knots hold the parameter
   crossing-reported : InClamp clamp m ts xs ys p q → (k : ℕ) × ReportedAt clamp m ts xs ys p q k
@@ -60,11 +64,11 @@ module _ (m : ℕ) (ts : List ℕ) (xs ys : List ℤ) (clamp : Rectangle) (c : C
         record {
           listed = there .1;
           span = there .2;
-          starts = rw (map-at (λ i. getD ts i 0) (metBy clamp m ts xs ys) (there .0) (there .1), there .2) (holds .0);
-          ends = rw (map-at (λ i. getD ts (i + 1) 0) (metBy clamp m ts xs ys) (there .0) (there .1), there .2) (holds .1);
+          starts = rw (map-at (λ i. getD ts i 0) (spansMet clamp m ts xs ys) (there .0) (there .1), there .2) (holds .0);
+          ends = rw (map-at (λ i. getD ts (i + 1) 0) (spansMet clamp m ts xs ys) (there .0) (there .1), there .2) (holds .1);
         },
       )
 
 pub every-crossing-reported : EveryCrossingReported
-every-crossing-reported m ts xs ys clamp lows highs p q e above inside hit =
-    crossing-reported m ts xs ys clamp (checked-of-passes m ts xs ys (accepted-passes m ts xs ys clamp lows highs e)) p q above inside hit
+every-crossing-reported m ts xs ys clamp lent p q e above inside hit =
+    crossing-reported m ts xs ys clamp (checked-of-passes m ts xs ys (accepted-passes m ts xs ys clamp lent e)) p q above inside hit

@@ -1,5 +1,4 @@
 -- Why every crossing is reported.
 pub mod Controls
 pub mod CrossingLaws
-pub mod ListedLaws
 pub mod MeetsLaws

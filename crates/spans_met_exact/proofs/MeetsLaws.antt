@@ -2,27 +2,27 @@
 -- else all of them, and the exact one with them, would lie a whole step beyond.
 use mathlib.Core.Bool.{Bool, true, false, _||_, true≢false}
 use mathlib.Core.List.{List, [], _∷_}
-use mathlib.Core.Path.{_≡_, refl, sym, _∙_, subst}
+use mathlib.Core.Path.{_≡_, refl, sym, _∙_}
 use Prim.Native.Nat.{ℕ, zero, suc, _+_, _-_, _≤_, _<_}
 use native.Mathlib.Omega.{arith}
-use lib.Dec.{T}
 use lib.IntN.{ℤ, pos, _+ℤ_, _-ℤ_}
-use lib.ListN.{length, getD, drop, length-drop}
+use lib.ListN.{length, getD}
 use lib.Ieee.Bits.{is-true}
-use lib.Signed.{leZ, _≤ℤ_}
-use lib.Seq.{getD-take, getD-drop, length-take-le}
+use lib.Signed.{leZ}
 use Rattle.algebra.specs.OrderedField.{Side, low, high}
 use Rattle.signed.proofs.OrderLaws.{leZ-true, leZ-false, le-leZ}
 use Rattle.signed.proofs.PartLaws.{sum-parts, difference-parts}
+use Rattle.checked.proofs.GridLaws.{leZ-le}
 use Rattle.boxes.specs.Meeting.{someAtMost, someAtLeast, meetsOnAxis}
 use Rattle.fractions.specs.Fraction.{Fraction, whole}
 use Rattle.fractions.specs.Order.{AtMost, Bounds}
 use Rattle.algebra.proofs.OrderLaws.{atMost-trans}
 use Rattle.fractions.proofs.Rational.{class, rational}
 use Rattle.fractions.proofs.ClassLaws.{whole-order, whole-at-most, class-at-most}
-use Rattle.exact.specs.ExactPoint.{exactCoordinate, coordinateAt}
+use Rattle.exact.specs.ExactPoint.{exactCoordinate}
 use Rattle.exact.proofs.HullLaws.{Carried, exact-bounded}
-use Rattle.span_walk.specs.SpansMet.{carryingOf}
+use Rattle.span.specs.Span.{carryingOf}
+use Rattle.span.proofs.SentenceLaws.{carrying-entries, carrying-at}
 
 or-not : (a b : Bool) → (a || b) ≡ false → (a ≡ false) × (b ≡ false)
 or-not true b h = absurd (true≢false h)
@@ -34,9 +34,6 @@ some-not test some more [] none k h = absurd (omega arith)
 some-not test some more (z ∷ zs) none zero h = or-not (test z) (some zs) (sym (more z zs) ∙ none) .0
 some-not test some more (z ∷ zs) none (suc k) h =
     some-not test some more zs (or-not (test z) (some zs) (sym (more z zs) ∙ none) .1) k (omega arith)
-
-at-most : {a b : ℤ} → leZ a b ≡ true → a ≤ℤ b
-at-most h = record { le = subst T (sym h) tt }
 
 -- whole numbers round a fraction are in order
 round-order : (a b : ℤ) (e : Fraction) → AtMost (whole a) e → AtMost e (whole b) → leZ a b ≡ true
@@ -61,8 +58,8 @@ Past high v z = leZ v z ≡ false
 
 past-bounds : (side : Side) (v z : ℤ) → Past side v z → Bounds side (whole (past side v)) (whole z)
 unfolding past Past
-past-bounds low v z h = whole-order (v +ℤ pos 1) z .0 (at-most (le-leZ (v +ℤ pos 1) z (omega (arith, leZ-false z v h, sum-parts v (pos 1)))))
-past-bounds high v z h = whole-order z (v -ℤ pos 1) .0 (at-most (le-leZ z (v -ℤ pos 1) (omega (arith, leZ-false v z h, difference-parts v (pos 1)))))
+past-bounds low v z h = whole-order (v +ℤ pos 1) z .0 (leZ-le (v +ℤ pos 1) z (le-leZ (v +ℤ pos 1) z (omega (arith, leZ-false z v h, sum-parts v (pos 1)))))
+past-bounds high v z h = whole-order z (v -ℤ pos 1) .0 (leZ-le z (v -ℤ pos 1) (le-leZ z (v -ℤ pos 1) (omega (arith, leZ-false v z h, difference-parts v (pos 1)))))
 
 -- nothing lies past v and on this side of v at once
 past-clash : (side : Side) (v : ℤ) (e : Fraction) → Bounds side (whole (past side v)) e → Bounds (other side) (whole v) e → ⊥
@@ -84,15 +81,6 @@ module _ (ts : List ℕ) (ps : List ℤ) (m i p q : ℕ) (c : Carried ts ps m i 
       (exact-bounded ts ps m i p q c side (whole (past side v)) (λ j l h. past-bounds side v (getD ps j (pos 0)) (all j l h)))
       bound
 
-  carrying-length : length (carryingOf m i ps) ≡ m + 1
-  carrying-length = length-take-le (m + 1) (drop (i - m) ps) (rw (length-drop (i - m) ps) (omega (arith, c .from, c .inside)))
-
-  -- the carrying coordinate of point j stands at j - (i - m)
-  carrying-at : (j : ℕ) → i ≤ j + m → j ≤ i → getD (carryingOf m i ps) (j - (i - m)) (pos 0) ≡ getD ps j (pos 0)
-  carrying-at j l h =
-      let place : i - m + (j - (i - m)) ≡ j = omega (arith, c .from) in
-      getD-take (m + 1) (drop (i - m) ps) (j - (i - m)) (pos 0) (omega (arith, c .from)) ∙ getD-drop (i - m) ps (j - (i - m)) (pos 0) ∙ rw place
-
   -- a test that each carrying coordinate past v fails is passed by some carrying coordinate
   some-this-side : (side : Side) (v : ℤ) (test : ℤ → Bool) (some : List ℤ → Bool) → ((z : ℤ) (zs : List ℤ) → some (z ∷ zs) ≡ (test z || some zs)) → ((z : ℤ) → test z ≡ false → Past side v z) → Bounds (other side) (whole v) (exactCoordinate ts ps m i p q) → some (carryingOf m i ps) ≡ true
   some-this-side side v test some more fails bound = by (some (carryingOf m i ps)) refl
@@ -102,7 +90,7 @@ module _ (ts : List ℕ) (ps : List ℤ) (m i p q : ℕ) (c : Carried ts ps m i 
       by false e =
           absurd
           (not-all-past side v bound
-          (λ j l h. fails (getD ps j (pos 0)) (rw (carrying-at j l h) at (some-not test some more (carryingOf m i ps) e (j - (i - m)) (rw carrying-length (omega (arith, c .from)))))))
+          (λ j l h. fails (getD ps j (pos 0)) (rw (carrying-at m i ps (c .from) (c .inside) j l h) at (some-not test some more (carryingOf m i ps) e (j - (i - m)) (omega (arith, c .from, carrying-entries m i ps (c .from) (c .inside) .count))))))
 
   -- the box of the carrying coordinates meets every pair of sides between which the exact coordinate lies
   pub exact-meets : (v w : ℤ) → AtMost (whole v) (exactCoordinate ts ps m i p q) → AtMost (exactCoordinate ts ps m i p q) (whole w) → meetsOnAxis v w (carryingOf m i ps) ≡ true

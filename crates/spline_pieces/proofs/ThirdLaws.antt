@@ -1,35 +1,36 @@
--- A third of a tangent's reach: an i64 holds it, and a point of the grid moved by it; an i32 holds a point of the grid.
-use mathlib.Core.Bool.{true}
-use mathlib.Core.Path.{_≡_}
-use Prim.Native.Nat.{ℕ, _*_, _^_, _≤_, _<_}
-use native.Mathlib.Nat.{div-le-self}
+-- A third of what an i64 holds: an i64 holds it too, also where it moves a coordinate; and when it is whole.
+use mathlib.Core.Path.{_≡_, ap, _∙_}
+use Prim.Native.Nat.{ℕ, _^_, _≤_}
 use native.Mathlib.Omega.{arith}
-use lib.IntN.{ℤ, pos, negℤ, natAbs, _+ℤ_, _-ℤ_, _*ℤ_}
+use lib.Dec.{eqb}
+use lib.IntN.{ℤ, pos, natAbs, _+ℤ_, _-ℤ_, _*ℤ_}
+use lib.Signed.{quotZ, remZ}
 use mir.Syntax.{w32, w64}
-use mir.Val.{SFits}
-use Rattle.signed.proofs.SizeLaws.{natAbs-neg, natAbs-add, natAbs-quot}
-use Rattle.signed.proofs.FitLaws.{fits64-of-size, fits32-of-size, size-of-fits32, product-size}
-use Rattle.grid.specs.Rows.{onGrid}
-use Rattle.checked.proofs.GridLaws.{onGrid-facts, onGrid-size}
-use Rattle.spline_pieces.specs.Pieces.{third}
+use mir.Val.{SFits, toZ, ofZ}
+use mir.ValLaws.{toZ-ofZ}
+use Rattle.signed.specs.Division.{divides}
+use Rattle.signed.proofs.SizeLaws.{natAbs-quot}
+use Rattle.signed.proofs.DivisionLaws.{remainder-none}
+use Rattle.signed.proofs.WidthLaws.{sfits-sum, sfits-difference}
+use Rattle.signed.proofs.FitLaws.{fits64-of-size, size-of-fits32, size-of-fits64}
+use Rattle.spline_pieces.specs.Pieces.{thirdWhole}
 
-module _ (h : ℕ) (d : ℤ) (short : h < 2 ^ 16) (fits : SFits w32 d) where
-  third-size : natAbs (third h d) ≤ 2 ^ 16 * 2 ^ 31
-  unfolding third
-  third-size = rw (natAbs-quot (pos h *ℤ d) 3) (omega (arith, div-le-self (natAbs (pos h *ℤ d)) 3, product-size h d short fits))
+module _ (z : ℤ) (fits : SFits w64 z) where
+  third-size : natAbs (quotZ z (pos 3)) ≤ 2 ^ 62
+  third-size = rw (natAbs-quot z 3) (omega (arith, size-of-fits64 z fits))
 
-  pub third-fits : SFits w64 (third h d)
-  third-fits = fits64-of-size (third h d) (omega (arith, third-size))
+  pub third-fits : SFits w64 (quotZ z (pos 3))
+  third-fits = fits64-of-size (quotZ z (pos 3)) (omega (arith, third-size))
 
-  pub leaving-fits : (p : ℤ) → SFits w32 p → SFits w64 (p +ℤ third h d)
-  leaving-fits p held =
-      fits64-of-size (p +ℤ third h d) (omega (arith, natAbs-add p (third h d), third-size, size-of-fits32 p held))
+  -- a coordinate moved by it, either way
+  pub moved-fits : (p : ℤ) → SFits w32 p → SFits w64 (p +ℤ quotZ z (pos 3)) × SFits w64 (p -ℤ quotZ z (pos 3))
+  moved-fits p held =
+      let size = size-of-fits32 p held in (
+        sfits-sum w64 p (quotZ z (pos 3)) (2 ^ 31) (2 ^ 62) size third-size (omega arith),
+        sfits-difference w64 p (quotZ z (pos 3)) (2 ^ 31) (2 ^ 62) size third-size (omega arith),
+      )
 
-  pub arriving-fits : (p : ℤ) → SFits w32 p → SFits w64 (p -ℤ third h d)
-  arriving-fits p held =
-      fits64-of-size (p -ℤ third h d)
-      (omega (arith, natAbs-add p (negℤ (third h d)), natAbs-neg (third h d), third-size, size-of-fits32 p held))
-
--- an i32 holds a point of the grid
-pub onGrid-fits : (z : ℤ) → onGrid z ≡ true → SFits w32 z
-onGrid-fits z e = fits32-of-size z (omega (arith, onGrid-size z (onGrid-facts z e)))
+-- code that tests the bits of its remainder judges whether the third is whole
+pub third-judged : (h : ℕ) (d z : ℤ) → SFits w64 z → z ≡ pos h *ℤ d → eqb (ofZ w64 (remZ (toZ w64 (ofZ w64 z)) (pos 3))) 0 ≡ thirdWhole h d
+unfolding thirdWhole
+third-judged h d z fits e = rw (toZ-ofZ w64 z fits) (remainder-none z 3 (omega arith) (omega arith)) ∙ ap (divides (pos 3)) e

@@ -1,4 +1,4 @@
--- A cubic over the interval from a to b (heading "Joining spline points"; source document 000, sections 2 and 3): by four
+-- A cubic over the interval from a to b (heading "Joining spline points"): by four
 -- control numbers, and by its values p, q and tangents u, v at the two ends.
 use Rattle.algebra.specs.Operations.{Operations, sub, div}
 use Rattle.algebra.specs.Ring.{numeral}
@@ -16,21 +16,21 @@ bernstein O x y p₀ p₁ p₂ p₃ =
 abbrev pub bezier : (O : Operations) (a b p₀ p₁ p₂ p₃ t : O .Number) → O .Number
 bezier O a b p₀ p₁ p₂ p₃ t = bernstein O (div O (sub O b t) (sub O b a)) (div O (sub O t a) (sub O b a)) p₀ p₁ p₂ p₃
 
--- F1 of source document 000: 2·y³ - 3·y² + 1
+-- the weight of the first point: 2·y³ - 3·y² + 1
 abbrev pub startWeight : (O : Operations) (y : O .Number) → O .Number
 startWeight O y =
     O .add (sub O (O .mul (numeral O 2) (O .mul y (O .mul y y))) (O .mul (numeral O 3) (O .mul y y))) (O .one)
 
--- F2: -2·y³ + 3·y²
+-- the weight of the last point: -2·y³ + 3·y²
 abbrev pub endWeight : (O : Operations) (y : O .Number) → O .Number
 endWeight O y = O .add (O .neg (O .mul (numeral O 2) (O .mul y (O .mul y y)))) (O .mul (numeral O 3) (O .mul y y))
 
--- F3: y·(y² - 2·y + 1)·h, where h is the interval's width
+-- the weight of the first tangent: y·(y² - 2·y + 1)·h, where h is the interval's width
 abbrev pub startTangentWeight : (O : Operations) (h y : O .Number) → O .Number
 startTangentWeight O h y =
     O .mul (O .mul y (O .add (sub O (O .mul y y) (O .mul (numeral O 2) y)) (O .one))) h
 
--- F4: y·(y² - y)·h
+-- the weight of the last tangent: y·(y² - y)·h
 abbrev pub endTangentWeight : (O : Operations) (h y : O .Number) → O .Number
 endTangentWeight O h y = O .mul (O .mul y (sub O (O .mul y y) y)) h
 

@@ -19,6 +19,5 @@ unfoldable pub entryOf : ℕ → List ℕ → List ℤ → ℕ → ℕ → ℕ �
 entryOf m ts ps t zero j = ofInt binary64 (getD ps j (pos 0))
 entryOf m ts ps t (suc r) j = cellAt m ts t (suc r) j (entryOf m ts ps t r (j - 1)) (entryOf m ts ps t r j)
 
--- the coordinate at t in the span i: the one entry of row m
-abbrev pub coordinateOf : ℕ → List ℕ → List ℤ → ℕ → ℕ → Float
+abbrev pub coordinateOf : ℕ → List ℕ → List ℤ → ℕ → ℕ → Float  -- the coordinate at t in the span i: the one entry of row m
 coordinateOf m ts ps i t = entryOf m ts ps t m i

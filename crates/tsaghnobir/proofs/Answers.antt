@@ -1,50 +1,55 @@
 -- The answer types of the wrapped calls: their two variants are apart.
 use mathlib.Core.Path.{_≡_}
 use Prim.Native.Nat.{ℕ}
-use native.Mathlib.Omega.{arith}
 use Rattle.point_at.specs.declared.PointAnswer.the-variants as pointed
 use Rattle.spans_met.specs.declared.SpansAnswer.the-variants as listed
 use Rattle.insert_knot.specs.declared.InsertAnswer.the-variants as inserted
+use Rattle.remove_knot.specs.declared.RemoveAnswer.the-variants as removed
+use Rattle.compact.specs.declared.CompactAnswer.the-variants as compacted
 use Rattle.joining.specs.declared.JoinAnswer.the-variants as joined
 use Rattle.record.specs.declared.WriteAnswer.the-variants as written
+use Rattle.record.specs.declared.ReadAnswer.the-variants as read
+use Rattle.job.specs.declared.JobAnswer.the-variants as job
 use Rattle.tsaghnobir.proofs.ArmLaws.{Variants}
 
 pub point-variants : Variants pointed.At pointed.Refused
-point-variants =
-    record {
-      apart = λ v n e. let z : _≡_ {A = ℕ} 0 1 = cc in omega arith;
-      same-value = λ v w e. cc;
-      same-number = λ m n e. cc;
-    }
+point-variants = record { apart = λ v n e. cc; same-value = λ v w e. cc; same-number = λ m n e. cc }
 
 pub spans-variants : Variants listed.Listed listed.Refused
-spans-variants =
-    record {
-      apart = λ v n e. let z : _≡_ {A = ℕ} 0 1 = cc in omega arith;
-      same-value = λ v w e. cc;
-      same-number = λ m n e. cc;
-    }
+spans-variants = record { apart = λ v n e. cc; same-value = λ v w e. cc; same-number = λ m n e. cc }
 
 pub insert-variants : Variants inserted.Inserted inserted.Refused
-insert-variants =
-    record {
-      apart = λ v n e. let z : _≡_ {A = ℕ} 0 1 = cc in omega arith;
-      same-value = λ v w e. cc;
-      same-number = λ m n e. cc;
-    }
+insert-variants = record { apart = λ v n e. cc; same-value = λ v w e. cc; same-number = λ m n e. cc }
+
+pub remove-variants : Variants removed.Removed removed.Refused
+remove-variants = record { apart = λ v n e. cc; same-value = λ v w e. cc; same-number = λ m n e. cc }
+
+pub compact-variants : Variants compacted.Compacted compacted.Refused
+compact-variants = record { apart = λ v n e. cc; same-value = λ v w e. cc; same-number = λ m n e. cc }
 
 pub join-variants : Variants joined.Joined joined.Refused
-join-variants =
-    record {
-      apart = λ v n e. let z : _≡_ {A = ℕ} 0 1 = cc in omega arith;
-      same-value = λ v w e. cc;
-      same-number = λ m n e. cc;
-    }
+join-variants = record { apart = λ v n e. cc; same-value = λ v w e. cc; same-number = λ m n e. cc }
 
 pub write-variants : Variants written.Written written.Refused
-write-variants =
-    record {
-      apart = λ v n e. let z : _≡_ {A = ℕ} 0 1 = cc in omega arith;
-      same-value = λ v w e. cc;
-      same-number = λ m n e. cc;
-    }
+write-variants = record { apart = λ v n e. cc; same-value = λ v w e. cc; same-number = λ m n e. cc }
+
+-- degree and number of points
+same-curve : (v w : ℕ × ℕ) → read.Curve (v .0) (v .1) ≡ read.Curve (w .0) (w .1) → v ≡ w
+same-curve (a, b) (c, d) e =
+    let degree : a ≡ c = cc in
+    let points : b ≡ d = cc in
+    rw (degree, points)
+
+pub read-variants : Variants (λ (v : ℕ × ℕ). read.Curve (v .0) (v .1)) read.Refused
+read-variants = record { apart = λ v n e. cc; same-value = same-curve; same-number = λ m n e. cc }
+
+-- degree, number of points and number of clamps
+same-job : (v w : ℕ × ℕ × ℕ) → job.Job (v .0) (v .1) (v .2) ≡ job.Job (w .0) (w .1) (w .2) → v ≡ w
+same-job (a, b, c) (d, f, g) e =
+    let degree : a ≡ d = cc in
+    let points : b ≡ f = cc in
+    let clamps : c ≡ g = cc in
+    rw (degree, points, clamps)
+
+pub job-variants : Variants (λ (v : ℕ × ℕ × ℕ). job.Job (v .0) (v .1) (v .2)) job.Refused
+job-variants = record { apart = λ v n e. cc; same-value = same-job; same-number = λ m n e. cc }

@@ -1,6 +1,7 @@
 -- Laws of an exported call's answer.
 pub mod Answers
 pub mod ArmLaws
-pub mod CarryingLaws
-pub mod CompactLaws
+mod CompactLaws
+mod HandsBackLaws
+mod ReadingLaws
 mod SpansLaws

@@ -1,4 +1,3 @@
--- What the exported calls leave in the single numbers lent to them.
+-- What the exported calls leave in the lists and single numbers lent to them.
 pub mod Places
-pub mod Reading
-pub mod Removing
+pub mod Outcomes

@@ -1,4 +1,4 @@
--- What a single lent number holds after an exported call, and the two values that only the exports name.
+-- What the single lent numbers hold after an exported call, and the values that only the exports name.
 use mathlib.Core.Bool.{cond}
 use mathlib.Core.List.{List}
 use Prim.Native.Nat.{ℕ, _-_}
@@ -8,7 +8,7 @@ use lib.ListN.{length}
 use Rattle.span.specs.Span.{spanOf}
 use Rattle.boxes.specs.declared.Rectangle.{Rectangle}
 
--- "Numbers of refusal": a lent place holds the value where the refusal number is 0, else what it held before
+-- "Numbers of refusal": lent places hold the value where the refusal number is 0, else what they held before
 abbrev pub placed : {A : Type 0} → ℕ → A → A → A
 placed number value before = cond (eqb number 0) value before
 

@@ -5,10 +5,11 @@ use record::WriteAnswer;
 ghost use mathlib.Core.Path.{_≡_};
 ghost use lib.ListN.{length};
 ghost use Rattle.lent.specs.Lent.{after};
+ghost use Rattle.curve.specs.Lists.{lists};
 ghost use Rattle.format.specs.Format.{form1, recordBytes};
 ghost use Rattle.record.specs.Writing.{writeNumber};
 ghost use Rattle.tsaghnobir.specs.Places.{placed};
-ghost use Rattle.tsaghnobir.specs.Reading.{ReadThrough, JobThrough};
+ghost use Rattle.tsaghnobir.specs.Outcomes.{RecordHandsBack, JobHandsBack};
 
 #[no_mangle]
 pub extern "C" fn tsb_write_record(
@@ -19,9 +20,11 @@ pub extern "C" fn tsb_write_record(
     out: &mut [u8],
     length: &mut usize,
 ) -> u32
-    ensures answer { λ r. ⌜ r ≡ writeNumber degree (now (knots .entry)) (now (xs .entry)) (now (ys .entry)) (now (out .entry)) ⌝ }
-    ensures result { λ r. ⌜ now (out .exit) ≡ after r (recordBytes form1 degree (now (knots .entry)) (now (xs .entry)) (now (ys .entry))) (now (out .entry)) ⌝ }
-    ensures count { λ r. ⌜ now (length .exit) ≡ placed r (lib.ListN.length (recordBytes form1 degree (now (knots .entry)) (now (xs .entry)) (now (ys .entry)))) (now (length .entry)) ⌝ }
+    ensures answer { λ r. ⌜ r ≡ writeNumber degree (lists (now (knots .entry)) (now (xs .entry)) (now (ys .entry))) (now (out .entry)) ⌝ }
+    ensures result { λ r. ⌜ now (out .exit)
+        ≡ after r (recordBytes form1 degree (lists (now (knots .entry)) (now (xs .entry)) (now (ys .entry)))) (now (out .entry)) ⌝ }
+    ensures count { λ r. ⌜ now (length .exit)
+        ≡ placed r (lib.ListN.length (recordBytes form1 degree (lists (now (knots .entry)) (now (xs .entry)) (now (ys .entry))))) (now (length .entry)) ⌝ }
 {
     let answer = record::write_record(degree, knots, xs, ys, out);
     match answer {
@@ -42,7 +45,9 @@ pub extern "C" fn tsb_read_record(
     degree: &mut u32,
     points: &mut usize,
 ) -> u32
-    ensures answer { λ r. ⌜ ReadThrough (now (bytes .entry)) (now («out_knots» .entry)) (now («out_xs» .entry)) (now («out_ys» .entry)) (now («out_knots» .exit)) (now («out_xs» .exit)) (now («out_ys» .exit)) r (now (degree .entry)) (now (degree .exit)) (now (points .entry)) (now (points .exit)) ⌝ }
+    ensures answer { λ r. ⌜ RecordHandsBack (now (bytes .entry))
+        (lists (now («out_knots» .entry)) (now («out_xs» .entry)) (now («out_ys» .entry))) (now (degree .entry), now (points .entry)) r
+        (lists (now («out_knots» .exit)) (now («out_xs» .exit)) (now («out_ys» .exit))) (now (degree .exit), now (points .exit)) ⌝ }
 {
     let answer = record::read_record(bytes, out_knots, out_xs, out_ys);
     match answer {
@@ -69,7 +74,10 @@ pub extern "C" fn tsb_read_job(
     points: &mut usize,
     clamp_count: &mut usize,
 ) -> u32
-    ensures answer { λ r. ⌜ JobThrough (now (bytes .entry)) (now («out_knots» .entry)) (now («out_xs» .entry)) (now («out_ys» .entry)) (now (clamps .entry)) (now («out_knots» .exit)) (now («out_xs» .exit)) (now («out_ys» .exit)) (now (clamps .exit)) r (now (degree .entry)) (now (degree .exit)) (now (points .entry)) (now (points .exit)) (now («clamp_count» .entry)) (now («clamp_count» .exit)) ⌝ }
+    ensures answer { λ r. ⌜ JobHandsBack (now (bytes .entry)) (lists (now («out_knots» .entry)) (now («out_xs» .entry)) (now («out_ys» .entry)))
+        (now (clamps .entry)) (now (degree .entry), now (points .entry), now («clamp_count» .entry)) r
+        (lists (now («out_knots» .exit)) (now («out_xs» .exit)) (now («out_ys» .exit))) (now (clamps .exit))
+        (now (degree .exit), now (points .exit), now («clamp_count» .exit)) ⌝ }
 {
     let answer = job::read_job(bytes, out_knots, out_xs, out_ys, clamps);
     match answer {

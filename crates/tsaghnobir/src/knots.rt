@@ -5,10 +5,12 @@ use remove_knot::RemoveAnswer;
 ghost use mathlib.Core.Path.{_≡_};
 ghost use Prim.Native.Nat.{_+_};
 ghost use lib.ListN.{length};
+ghost use Rattle.curve.specs.Lists.{lists};
+ghost use Rattle.curve.specs.HandingOver.{handedOver};
+ghost use Rattle.insertion.specs.Insertion.{inserted};
 ghost use Rattle.insertion.specs.Judged.{insertionNumber};
-ghost use Rattle.insert_knot.specs.Lists.{InsertedLists};
 ghost use Rattle.tsaghnobir.specs.Places.{placed};
-ghost use Rattle.tsaghnobir.specs.Removing.{RemovedThrough, CompactedThrough};
+ghost use Rattle.tsaghnobir.specs.Outcomes.{RemovalHandsBack, CompactionHandsBack};
 
 #[no_mangle]
 pub extern "C" fn tsb_insert(
@@ -22,8 +24,11 @@ pub extern "C" fn tsb_insert(
     out_ys: &mut [i32],
     points: &mut usize,
 ) -> u32
-    ensures answer { λ r. ⌜ r ≡ insertionNumber degree (now (knots .entry)) (now (xs .entry)) (now (ys .entry)) v (length (now («out_knots» .entry))) (length (now («out_xs» .entry))) (length (now («out_ys» .entry))) ⌝ }
-    ensures result { λ r. ⌜ InsertedLists r degree (now (knots .entry)) (now (xs .entry)) (now (ys .entry)) v (now («out_knots» .entry)) (now («out_xs» .entry)) (now («out_ys» .entry)) (now («out_knots» .exit)) (now («out_xs» .exit)) (now («out_ys» .exit)) ⌝ }
+    ensures answer { λ r. ⌜ r ≡ insertionNumber degree (lists (now (knots .entry)) (now (xs .entry)) (now (ys .entry))) v
+        (lists (now («out_knots» .entry)) (now («out_xs» .entry)) (now («out_ys» .entry))) ⌝ }
+    ensures result { λ r. ⌜ lists (now («out_knots» .exit)) (now («out_xs» .exit)) (now («out_ys» .exit))
+        ≡ handedOver r (inserted degree (lists (now (knots .entry)) (now (xs .entry)) (now (ys .entry))) v)
+        (lists (now («out_knots» .entry)) (now («out_xs» .entry)) (now («out_ys» .entry))) ⌝ }
     ensures count { λ r. ⌜ now (points .exit) ≡ placed r (length (now (xs .entry)) + 1) (now (points .entry)) ⌝ }
 {
     let answer = insert_knot::insert_knot(degree, knots, xs, ys, v, out_knots, out_xs, out_ys);
@@ -48,7 +53,9 @@ pub extern "C" fn tsb_remove(
     out_ys: &mut [i32],
     points: &mut usize,
 ) -> u32
-    ensures answer { λ r. ⌜ RemovedThrough degree (now (knots .entry)) (now (xs .entry)) (now (ys .entry)) v (now («out_knots» .entry)) (now («out_xs» .entry)) (now («out_ys» .entry)) (now («out_knots» .exit)) (now («out_xs» .exit)) (now («out_ys» .exit)) r (now (points .entry)) (now (points .exit)) ⌝ }
+    ensures answer { λ r. ⌜ RemovalHandsBack degree (lists (now (knots .entry)) (now (xs .entry)) (now (ys .entry))) v
+        (lists (now («out_knots» .entry)) (now («out_xs» .entry)) (now («out_ys» .entry))) (now (points .entry)) r
+        (lists (now («out_knots» .exit)) (now («out_xs» .exit)) (now («out_ys» .exit))) (now (points .exit)) ⌝ }
 {
     let answer = remove_knot::remove_knot(degree, knots, xs, ys, v, out_knots, out_xs, out_ys);
     match answer {
@@ -72,7 +79,9 @@ pub extern "C" fn tsb_compact(
     points: &mut usize,
     removed: &mut usize,
 ) -> u32
-    ensures answer { λ r. ⌜ CompactedThrough degree (record { knots = now (knots .entry); xs = now (xs .entry); ys = now (ys .entry) }) (now («out_knots» .entry)) (now («out_xs» .entry)) (now («out_ys» .entry)) (now («out_knots» .exit)) (now («out_xs» .exit)) (now («out_ys» .exit)) r (now (points .entry)) (now (points .exit)) (now (removed .entry)) (now (removed .exit)) ⌝ }
+    ensures answer { λ r. ⌜ CompactionHandsBack degree (lists (now (knots .entry)) (now (xs .entry)) (now (ys .entry)))
+        (lists (now («out_knots» .entry)) (now («out_xs» .entry)) (now («out_ys» .entry))) (now (points .entry), now (removed .entry)) r
+        (lists (now («out_knots» .exit)) (now («out_xs» .exit)) (now («out_ys» .exit))) (now (points .exit), now (removed .exit)) ⌝ }
 {
     let answer = compact::compact(degree, knots, xs, ys, out_knots, out_xs, out_ys);
     match answer {

@@ -2,9 +2,11 @@
 use joining::JoinAnswer;
 ghost use mathlib.Core.Path.{_≡_};
 ghost use lib.ListN.{length};
-ghost use Rattle.joining.specs.Answer.{joinRefusal, JoinedOver};
-ghost use Rattle.joined_curve.specs.Curve.{innerKnots, joinedPoints};
-ghost use Rattle.spline_pieces.specs.Pieces.{pieces};
+ghost use Rattle.curve.specs.Lists.{lists};
+ghost use Rattle.curve.specs.HandingOver.{handedOver};
+ghost use Rattle.joined_curve.specs.Curve.{innerKnots};
+ghost use Rattle.joining.specs.SplinePoints.{splinePoints};
+ghost use Rattle.joining.specs.Answer.{joinedLists, joinNumber};
 ghost use Rattle.tsaghnobir.specs.Places.{placed};
 
 #[no_mangle]
@@ -19,9 +21,14 @@ pub extern "C" fn tsb_join(
     out_ys: &mut [i32],
     points: &mut usize,
 ) -> u32
-    ensures answer { λ r. ⌜ r ≡ joinRefusal innerKnots (now (params .entry)) (now (px .entry)) (now (py .entry)) (now (tx .entry)) (now (ty .entry)) (length (now («out_knots» .entry))) (length (now («out_xs» .entry))) (length (now («out_ys» .entry))) ⌝ }
-    ensures result { λ r. ⌜ JoinedOver innerKnots r (now (params .entry)) (now (px .entry)) (now (py .entry)) (now (tx .entry)) (now (ty .entry)) (now («out_knots» .entry)) (now («out_knots» .exit)) (now («out_xs» .entry)) (now («out_xs» .exit)) (now («out_ys» .entry)) (now («out_ys» .exit)) ⌝ }
-    ensures count { λ r. ⌜ now (points .exit) ≡ placed r (length (joinedPoints innerKnots (pieces (now (params .entry)) (now (px .entry)) (now (tx .entry))))) (now (points .entry)) ⌝ }
+    ensures answer { λ r. ⌜ r ≡ joinNumber innerKnots
+        (splinePoints (now (params .entry)) (now (px .entry)) (now (py .entry)) (now (tx .entry)) (now (ty .entry)))
+        (lists (now («out_knots» .entry)) (now («out_xs» .entry)) (now («out_ys» .entry))) ⌝ }
+    ensures result { λ r. ⌜ lists (now («out_knots» .exit)) (now («out_xs» .exit)) (now («out_ys» .exit))
+        ≡ handedOver r (joinedLists innerKnots (splinePoints (now (params .entry)) (now (px .entry)) (now (py .entry)) (now (tx .entry)) (now (ty .entry))))
+        (lists (now («out_knots» .entry)) (now («out_xs» .entry)) (now («out_ys» .entry))) ⌝ }
+    ensures count { λ r. ⌜ now (points .exit) ≡ placed r (length (joinedLists innerKnots
+        (splinePoints (now (params .entry)) (now (px .entry)) (now (py .entry)) (now (tx .entry)) (now (ty .entry))) .xs)) (now (points .entry)) ⌝ }
 {
     let answer = joining::join_through_points(params, px, py, tx, ty, out_knots, out_xs, out_ys);
     match answer {

@@ -6,6 +6,7 @@ use mathlib.Core.Path.{_≡_}
 use Prim.Native.Nat.{ℕ, _+_, _≤_, _<_}
 use lib.IntN.{ℤ}
 use lib.ListN.{length, getD, take, drop}
+use Rattle.curve.specs.Lists.{NeverFall}
 use Rattle.lent.specs.Lent.{over}
 use Rattle.removal.specs.Axis.{Ranged, AxisReinserts}
 
@@ -23,7 +24,7 @@ pub record Window (m : ℕ) (ts : List ℕ) (xs ys : List ℤ) : Type 0 where
   pub knots : length ts ≡ m + m + 3
   pub across : length xs ≡ m + 2
   pub up : length ys ≡ m + 2
-  pub rises : (a b : ℕ) → a ≤ b → b < length ts → getD ts a 0 ≤ getD ts b 0
+  pub rises : NeverFall ts
   pub last : middle m ts < getD ts (m + 2) 0
   pub rangedXs : Ranged xs
   pub rangedYs : Ranged ys

@@ -37,8 +37,8 @@ fn close(m: usize, knots: &[u16]) -> [u16; 8]
     ]
 }
 
-// One try, given the fewer knots and lists for the new points.
-fn remove_through(
+// One try, one axis after the other, given the fewer knots and lists for the new points.
+fn remove_by_axes(
     m: usize,
     knots: &mut [u16],
     xs: &mut [i32],
@@ -77,7 +77,7 @@ pub fn remove_middle(m: usize, knots: &mut [u16], xs: &mut [i32], ys: &mut [i32]
     let mut py = [0i32; 4];
     let width = m + 1;
     let fewer = m + width + 1;
-    remove_through(
+    remove_by_axes(
         m,
         knots,
         xs,

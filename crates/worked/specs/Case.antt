@@ -1,32 +1,37 @@
 -- A worked example: a call, what it is called on and what it answers (heading "Worked by hand"). It holds where the call's own
--- definition gives that answer. Parameters stand in knot units.
+-- definition gives that answer. Refusal numbers are numerals here, and parameters stand in knot units.
 use mathlib.Core.Bool.{false}
 use mathlib.Core.List.{List, [], _∷_, map}
 use mathlib.Core.Path.{_≡_}
-use Prim.Native.Nat.{ℕ, _+_}
+use Prim.Native.Nat.{ℕ}
 use lib.IntN.{ℤ, pos}
 use lib.Ieee.{Float, binary64, round}
 use lib.ListN.{length, replicate}
+use Rattle.curve.specs.Lists.{Lists, lists}
 use Rattle.point_at.specs.declared.PointAnswer.{PointAnswer}
 use Rattle.point_at.specs.declared.PointAnswer.the-variants.{At}
 use Rattle.point_at.specs.Point.{answerOf}
-use Rattle.insertion.specs.Insertion.{insertedKnots, insertedPoints}
-use Rattle.insertion.specs.Judged.{insertionNumber}
-use Rattle.insert_knot.specs.Answer.{insertAnswer}
+use Rattle.domain.specs.Parameter.{parameterNumber}
+use Rattle.carrying.specs.declared.Axis.{Axis}
+use Rattle.carrying.specs.Carrying.{partOf}
+use Rattle.boxes.specs.declared.Rectangle.{Rectangle}
+use Rattle.span_walk.specs.SpanLists.{SpanLists, spanLists}
+use Rattle.spans_met.specs.Answer.{listAnswer, listed}
+use Rattle.spans_met.specs.declared.SpansAnswer.the-variants.{Listed}
+use Rattle.lent.specs.Lent.{after}
+use Rattle.format.specs.Format.{form1, recordBytes}
+use Rattle.record.specs.Writing.{writeNumber, writeAnswer}
+use Rattle.record.specs.declared.WriteAnswer.the-variants.{Written}
+use Rattle.compact.specs.Outcome.{CompactOutcome}
+use Rattle.compact.specs.declared.CompactAnswer.the-variants.{Compacted}
+use Rattle.insert_knot.specs.Answer.{InsertOutcome}
 use Rattle.insert_knot.specs.declared.InsertAnswer.the-variants.{Inserted, Refused as InsertRefused}
-use Rattle.remove_knot.specs.declared.RemoveAnswer.the-variants.{Removed, Refused as RemoveRefused}
 use Rattle.remove_knot.specs.Outcome.{RemovalOutcome}
-use Rattle.spline_pieces.specs.Pieces.{pieces}
-use Rattle.joined_curve.specs.Curve.{innerKnots, joinedKnots, joinedPoints}
-use Rattle.joining.specs.Answer.{joinRefusal, joinAnswer}
+use Rattle.remove_knot.specs.declared.RemoveAnswer.the-variants.{Removed, Refused as RemoveRefused}
+use Rattle.joined_curve.specs.Curve.{innerKnots}
+use Rattle.joining.specs.SplinePoints.{SplinePoints}
+use Rattle.joining.specs.Answer.{JoinOutcome}
 use Rattle.joining.specs.declared.JoinAnswer.the-variants.{Joined, Refused as JoinRefused}
-
--- a curve: degree, knots, x and y
-pub record Curve : Type 0 where
-  pub degree : ℕ
-  pub knots : List ℕ
-  pub xs : List ℤ
-  pub ys : List ℤ
 
 -- coordinates that are not below zero
 abbrev pub whole : List ℕ → List ℤ
@@ -44,56 +49,60 @@ at x y = At (record { x = hundredths x; y = hundredths y })
 abbrev pub argument : ℕ → ℕ
 argument u = u
 
--- spline points: parameters, points and tangents
-pub record SplinePoints : Type 0 where
-  pub params : List ℕ
-  pub xs : List ℤ
-  pub ys : List ℤ
-  pub dxs : List ℤ
-  pub dys : List ℤ
-
+-- each is a call on a curve of some degree; what is lent are lists of just the places that the result needs, and for a refusal none
 pub data Case : Type 0 where
   -- the point of a curve at a parameter
-  pointAt : Curve → ℕ → PointAnswer → Case
+  pointAt : ℕ → Lists → ℕ → PointAnswer → Case
+  -- the carrying coordinates at a parameter on an axis; or there are none
+  carried : ℕ → Lists → ℕ → Axis → List ℤ → Case
+  carriedNot : ℕ → Lists → ℕ → Axis → ℕ → Case
+  -- so many spans may meet a clamp, and the lists of their knots, where each lent list was zeros in as many places as there are spans
+  spansListed : ℕ → Lists → Rectangle → ℕ → SpanLists → Case
+  -- the record of a curve
+  recorded : ℕ → Lists → List ℕ → Case
+  -- a curve with so many knots compacted away is another curve
+  compacted : ℕ → Lists → ℕ → Lists → Case
   -- a curve with a knot inserted is another curve; or that is refused
-  inserted : Curve → ℕ → Curve → Case
-  insertedNot : Curve → ℕ → ℕ → Case
+  inserted : ℕ → Lists → ℕ → Lists → Case
+  insertedNot : ℕ → Lists → ℕ → ℕ → Case
   -- a curve with a knot removed is another curve; or that is refused
-  removed : Curve → ℕ → Curve → Case
-  removedNot : Curve → ℕ → ℕ → Case
-  -- spline points joined are a curve; or that is refused
-  joined : SplinePoints → Curve → Case
+  removed : ℕ → Lists → ℕ → Lists → Case
+  removedNot : ℕ → Lists → ℕ → ℕ → Case
+  -- spline points joined are a curve of degree 3; or that is refused
+  joined : SplinePoints → Lists → Case
   joinedNot : SplinePoints → ℕ → Case
 
--- the number of inserting v into c, with lists lent that have the places of curve d
-abbrev pub numberInto : Curve → ℕ → Curve → ℕ
-numberInto c v d =
-    insertionNumber (c .degree) (c .knots) (c .xs) (c .ys) v (length (d .knots)) (length (d .xs)) (length (d .ys))
+-- zeros in the places of a curve's lists
+abbrev pub placesOf : Lists → Lists
+placesOf d = lists (replicate (length (d .knots)) 0) (replicate (length (d .xs)) (pos 0)) (replicate (length (d .ys)) (pos 0))
 
--- the number of joining s, with lists lent that have these places
-abbrev pub joinNumber : SplinePoints → ℕ → ℕ → ℕ → ℕ
-joinNumber s knots xs ys = joinRefusal innerKnots (s .params) (s .xs) (s .ys) (s .dxs) (s .dys) knots xs ys
+-- zeros in the places of two lists of knots
+abbrev pub placesOfSpans : SpanLists → SpanLists
+placesOfSpans s = spanLists (replicate (length (s .lows)) 0) (replicate (length (s .highs)) 0)
 
--- the call's definition gives the answer, and its lists are the expected ones; each lent list has just the places that the result needs
+-- lists without a place
+abbrev pub noPlaces : Lists
+noPlaces = lists [] [] []
+
+-- the call's definition gives the answer, and the lent lists are then the expected ones
 abbrev pub Holds : Case → Type 0
-Holds (pointAt c u a) = answerOf (c .degree) (c .knots) (c .xs) (c .ys) (argument u) ≡ a
-Holds (inserted c v d) =
-    (insertAnswer (numberInto c v d) (length (c .xs) + 1) ≡ Inserted (length (d .xs)))
-    × (insertedKnots (c .knots) v ≡ d .knots)
-    × (insertedPoints (c .degree) (c .knots) (c .xs) v ≡ d .xs)
-    × (insertedPoints (c .degree) (c .knots) (c .ys) v ≡ d .ys)
-Holds (insertedNot c v n) = insertAnswer (insertionNumber (c .degree) (c .knots) (c .xs) (c .ys) v 99 99 99) (length (c .xs) + 1) ≡ InsertRefused n
-Holds (removed c v d) =
-    RemovalOutcome (c .degree) (c .knots) (c .xs) (c .ys) v
-    (replicate (length (d .knots)) 0) (replicate (length (d .xs)) (pos 0)) (replicate (length (d .ys)) (pos 0))
-    (Removed (length (d .xs))) (d .knots) (d .xs) (d .ys)
-Holds (removedNot c v n) = RemovalOutcome (c .degree) (c .knots) (c .xs) (c .ys) v [] [] [] (RemoveRefused n) [] [] []
-Holds (joined s d) =
-    (joinAnswer (joinNumber s (length (d .knots)) (length (d .xs)) (length (d .ys))) (length (joinedPoints innerKnots (pieces (s .params) (s .xs) (s .dxs)))) ≡ Joined (length (d .xs)))
-    × (joinedKnots innerKnots (pieces (s .params) (s .xs) (s .dxs)) ≡ d .knots)
-    × (joinedPoints innerKnots (pieces (s .params) (s .xs) (s .dxs)) ≡ d .xs)
-    × (joinedPoints innerKnots (pieces (s .params) (s .ys) (s .dys)) ≡ d .ys)
-Holds (joinedNot s n) = joinAnswer (joinNumber s 99 99 99) (length (joinedPoints innerKnots (pieces (s .params) (s .xs) (s .dxs)))) ≡ JoinRefused n
+Holds (pointAt m c u a) = answerOf m (c .knots) (c .xs) (c .ys) (argument u) ≡ a
+Holds (carried m c u axis part) =
+    (parameterNumber m (c .knots) (c .xs) (c .ys) (argument u) ≡ 0) × (partOf m (c .knots) (c .xs) (c .ys) (argument u) axis ≡ part)
+Holds (carriedNot m c u axis n) =
+    (parameterNumber m (c .knots) (c .xs) (c .ys) (argument u) ≡ n) × (partOf m (c .knots) (c .xs) (c .ys) (argument u) axis ≡ [])
+Holds (spansListed m c clamp count s) =
+    (listAnswer m c clamp (placesOfSpans s) ≡ Listed count) × (listed m c clamp (placesOfSpans s) ≡ s)
+Holds (recorded m c bytes) =
+    let places : List ℕ = replicate (length bytes) 0 in
+    (writeAnswer m c places ≡ Written (length bytes)) × (after (writeNumber m c places) (recordBytes form1 m c) places ≡ bytes)
+Holds (compacted m c count d) = CompactOutcome m c (placesOf d) (Compacted count) d
+Holds (inserted m c v d) = InsertOutcome m c v (placesOf d) (Inserted (length (d .xs))) d
+Holds (insertedNot m c v n) = InsertOutcome m c v noPlaces (InsertRefused n) noPlaces
+Holds (removed m c v d) = RemovalOutcome m c v (placesOf d) (Removed (length (d .xs))) d
+Holds (removedNot m c v n) = RemovalOutcome m c v noPlaces (RemoveRefused n) noPlaces
+Holds (joined s d) = JoinOutcome innerKnots s (placesOf d) (Joined (length (d .xs))) d
+Holds (joinedNot s n) = JoinOutcome innerKnots s noPlaces (JoinRefused n) noPlaces
 
 -- each of a list holds
 abbrev pub AllHold : List Case → Type 0

@@ -2,84 +2,128 @@
 use mathlib.Core.List.{List, [], _∷_}
 use Prim.Native.Nat.{ℕ}
 use lib.IntN.{pos, negsuc}
-use Rattle.refusal.specs.Numbers.{parameterRefused, insertionRefused, notWholeRefused, notRemovableRefused}
+use Rattle.curve.specs.Lists.{Lists, lists}
+use Rattle.joining.specs.SplinePoints.{SplinePoints, splinePoints}
 use Rattle.point_at.specs.declared.PointAnswer.the-variants.{Refused}
-use Rattle.worked.specs.Case.{Curve, SplinePoints, Case, pointAt, inserted, insertedNot, removed, removedNot, joined, joinedNot, whole, at}
+use Rattle.carrying.specs.declared.Axis.the-variants.{X, Y}
+use Rattle.boxes.specs.declared.Rectangle.{Rectangle}
+use Rattle.span_walk.specs.SpanLists.{spanLists}
+use Rattle.worked.specs.Case.{Case, pointAt, carried, carriedNot, spansListed, recorded, compacted, inserted, insertedNot, removed, removedNot, joined, joinedNot, whole, at}
 
--- degree 3, points (0,0) (0,8) (8,8) (8,0)
-abbrev pub curveA : Curve
-curveA =
-    record {
-      degree = 3;
-      knots = 0 ∷ 0 ∷ 0 ∷ 0 ∷ 4 ∷ 4 ∷ 4 ∷ 4 ∷ [];
-      xs = whole (0 ∷ 0 ∷ 8 ∷ 8 ∷ []);
-      ys = whole (0 ∷ 8 ∷ 8 ∷ 0 ∷ []);
-    }
+-- a curve whose coordinates are not below zero
+abbrev pub curve : List ℕ → List ℕ → List ℕ → Lists
+curve ts xs ys = lists ts (whole xs) (whole ys)
 
--- degree 2, points (0,0) (4,8) (8,8) (12,0)
-abbrev pub curveB : Curve
-curveB =
-    record {
-      degree = 2;
-      knots = 0 ∷ 0 ∷ 0 ∷ 2 ∷ 4 ∷ 4 ∷ 4 ∷ [];
-      xs = whole (0 ∷ 4 ∷ 8 ∷ 12 ∷ []);
-      ys = whole (0 ∷ 8 ∷ 8 ∷ 0 ∷ []);
-    }
+-- A, of degree 3: points (0,0) (0,8) (8,8) (8,0)
+abbrev pub curveA : Lists
+curveA = curve (0 ∷ 0 ∷ 0 ∷ 0 ∷ 4 ∷ 4 ∷ 4 ∷ 4 ∷ []) (0 ∷ 0 ∷ 8 ∷ 8 ∷ []) (0 ∷ 8 ∷ 8 ∷ 0 ∷ [])
+
+-- B, of degree 2: points (0,0) (4,8) (8,8) (12,0)
+abbrev pub curveB : Lists
+curveB = curve (0 ∷ 0 ∷ 0 ∷ 2 ∷ 4 ∷ 4 ∷ 4 ∷ []) (0 ∷ 4 ∷ 8 ∷ 12 ∷ []) (0 ∷ 8 ∷ 8 ∷ 0 ∷ [])
 
 -- B with P_1 = (4,7), and B with its third point at (10,8)
-abbrev pub curveB-lower : Curve
-curveB-lower =
-    record { degree = 2; knots = curveB .knots; xs = curveB .xs; ys = whole (0 ∷ 7 ∷ 8 ∷ 0 ∷ []) }
+abbrev pub curveB-lower : Lists
+curveB-lower = curve (curveB .knots) (0 ∷ 4 ∷ 8 ∷ 12 ∷ []) (0 ∷ 7 ∷ 8 ∷ 0 ∷ [])
 
-abbrev pub curveB-wider : Curve
-curveB-wider =
-    record { degree = 2; knots = curveB .knots; xs = whole (0 ∷ 4 ∷ 10 ∷ 12 ∷ []); ys = curveB .ys }
+abbrev pub curveB-wider : Lists
+curveB-wider = curve (curveB .knots) (0 ∷ 4 ∷ 10 ∷ 12 ∷ []) (0 ∷ 8 ∷ 8 ∷ 0 ∷ [])
 
--- a curve of degree 2
-abbrev pub parabolas : List ℕ → List ℕ → List ℕ → Curve
-parabolas ts xs ys = record { degree = 2; knots = ts; xs = whole xs; ys = whole ys }
+-- the latter without its knot 2
+abbrev pub curveB-parabola : Lists
+curveB-parabola = curve (0 ∷ 0 ∷ 0 ∷ 4 ∷ 4 ∷ 4 ∷ []) (0 ∷ 8 ∷ 12 ∷ []) (0 ∷ 16 ∷ 0 ∷ [])
 
 -- B with 2 inserted
-abbrev pub curveB-doubled : Curve
-curveB-doubled = parabolas (0 ∷ 0 ∷ 0 ∷ 2 ∷ 2 ∷ 4 ∷ 4 ∷ 4 ∷ []) (0 ∷ 4 ∷ 6 ∷ 8 ∷ 12 ∷ []) (0 ∷ 8 ∷ 8 ∷ 8 ∷ 0 ∷ [])
+abbrev pub curveB-doubled : Lists
+curveB-doubled = curve (0 ∷ 0 ∷ 0 ∷ 2 ∷ 2 ∷ 4 ∷ 4 ∷ 4 ∷ []) (0 ∷ 4 ∷ 6 ∷ 8 ∷ 12 ∷ []) (0 ∷ 8 ∷ 8 ∷ 8 ∷ 0 ∷ [])
+
+-- C, of degree 2: points (0,0) (4,8) (8,0); and with 2 inserted twice
+abbrev pub curveC : Lists
+curveC = curve (0 ∷ 0 ∷ 0 ∷ 4 ∷ 4 ∷ 4 ∷ []) (0 ∷ 4 ∷ 8 ∷ []) (0 ∷ 8 ∷ 0 ∷ [])
+
+abbrev pub curveC-doubled : Lists
+curveC-doubled = curve (0 ∷ 0 ∷ 0 ∷ 2 ∷ 2 ∷ 4 ∷ 4 ∷ 4 ∷ []) (0 ∷ 2 ∷ 4 ∷ 6 ∷ 8 ∷ []) (0 ∷ 4 ∷ 4 ∷ 4 ∷ 0 ∷ [])
+
+-- D, of degree 2: points (0,0) (8,16) (16,0); and with 1 and 2 inserted
+abbrev pub curveD : Lists
+curveD = curve (0 ∷ 0 ∷ 0 ∷ 4 ∷ 4 ∷ 4 ∷ []) (0 ∷ 8 ∷ 16 ∷ []) (0 ∷ 16 ∷ 0 ∷ [])
+
+abbrev pub curveD-refined : Lists
+curveD-refined = curve (0 ∷ 0 ∷ 0 ∷ 1 ∷ 2 ∷ 4 ∷ 4 ∷ 4 ∷ []) (0 ∷ 2 ∷ 6 ∷ 12 ∷ 16 ∷ []) (0 ∷ 4 ∷ 8 ∷ 8 ∷ 0 ∷ [])
+
+-- E, of degree 2, on the diagonal: one pass takes its 3 alone, and a second one would take the 2
+abbrev pub curveE : Lists
+curveE =
+    let zs = pos 3 ∷ negsuc 1 ∷ pos 1 ∷ pos 3 ∷ pos 4 ∷ pos 4 ∷ [] in
+    lists (0 ∷ 0 ∷ 0 ∷ 1 ∷ 2 ∷ 3 ∷ 4 ∷ 4 ∷ 4 ∷ []) zs zs
+
+abbrev pub curveE-passed : Lists
+curveE-passed =
+    let zs = pos 3 ∷ negsuc 1 ∷ pos 1 ∷ pos 4 ∷ pos 4 ∷ [] in
+    lists (0 ∷ 0 ∷ 0 ∷ 1 ∷ 2 ∷ 4 ∷ 4 ∷ 4 ∷ []) zs zs
+
+-- a clamp by its sides
+abbrev pub clamp : ℕ → ℕ → ℕ → ℕ → Rectangle
+clamp lowX highX lowY highY =
+    record { «low_x» = pos lowX; «high_x» = pos highX; «low_y» = pos lowY; «high_y» = pos highY }
 
 -- spline points (0,0) and (12,0) with tangents (1,1) and (1,-1), at the parameters 0 and `last`
 abbrev pub arch : ℕ → SplinePoints
-arch last =
-    record { params = 0 ∷ last ∷ []; xs = whole (0 ∷ 12 ∷ []); ys = whole (0 ∷ 0 ∷ []); dxs = whole (1 ∷ 1 ∷ []); dys = pos 1 ∷ negsuc 0 ∷ [] }
+arch last = splinePoints (0 ∷ last ∷ []) (whole (0 ∷ 12 ∷ [])) (whole (0 ∷ 0 ∷ [])) (whole (1 ∷ 1 ∷ [])) (pos 1 ∷ negsuc 0 ∷ [])
 
 abbrev pub cases : List Case
 cases =
     -- A at 0 is (0, 0)
-    pointAt curveA 0 (at 0 0)
+    pointAt 3 curveA 0 (at 0 0)
     -- A at 1 is (1.25, 4.5)
-    ∷ pointAt curveA 1 (at 125 450)
+    ∷ pointAt 3 curveA 1 (at 125 450)
     -- A at 2 is (4, 6)
-    ∷ pointAt curveA 2 (at 400 600)
+    ∷ pointAt 3 curveA 2 (at 400 600)
     -- A at 4 is (8, 0)
-    ∷ pointAt curveA 4 (at 800 0)
+    ∷ pointAt 3 curveA 4 (at 800 0)
     -- A at 5 is refused, 8
-    ∷ pointAt curveA 5 (Refused parameterRefused)
+    ∷ pointAt 3 curveA 5 (Refused 8)
     -- B at 1 is (3.5, 6)
-    ∷ pointAt curveB 1 (at 350 600)
+    ∷ pointAt 2 curveB 1 (at 350 600)
     -- B at 2 is (6, 8)
-    ∷ pointAt curveB 2 (at 600 800)
+    ∷ pointAt 2 curveB 2 (at 600 800)
+    -- A is carried by all its points; B at 1 by the first three, and at its end, 4, by the last three; at 5 it is refused, 8
+    ∷ carried 3 curveA 1 X (whole (0 ∷ 0 ∷ 8 ∷ 8 ∷ []))
+    ∷ carried 3 curveA 1 Y (whole (0 ∷ 8 ∷ 8 ∷ 0 ∷ []))
+    ∷ carried 2 curveB 1 X (whole (0 ∷ 4 ∷ 8 ∷ []))
+    ∷ carried 2 curveB 4 Y (whole (8 ∷ 8 ∷ 0 ∷ []))
+    ∷ carriedNot 2 curveB 5 Y 8
+    -- B with 2 inserted has the spans 0..2, box 0..6 by 0..8, and 2..4, box 6..12 by 0..8: a clamp in both, one above both, one at a corner
+    ∷ spansListed 2 curveB-doubled (clamp 5 7 3 4) 2 (spanLists (0 ∷ 2 ∷ []) (2 ∷ 4 ∷ []))
+    ∷ spansListed 2 curveB-doubled (clamp 0 12 9 10) 0 (spanLists (0 ∷ 0 ∷ []) (0 ∷ 0 ∷ []))
+    ∷ spansListed 2 curveB-doubled (clamp 12 20 8 9) 1 (spanLists (2 ∷ 0 ∷ []) (4 ∷ 0 ∷ []))
+    -- the record of A: degree, knots, x and y, each behind its tag and its length
+    ∷ recorded 3 curveA
+    (1 ∷ 1 ∷ 0 ∷ 3
+    ∷ 2 ∷ 16 ∷ 0 ∷ 0 ∷ 0 ∷ 0 ∷ 0 ∷ 0 ∷ 0 ∷ 0 ∷ 0 ∷ 4 ∷ 0 ∷ 4 ∷ 0 ∷ 4 ∷ 0 ∷ 4 ∷ 0
+    ∷ 3 ∷ 16 ∷ 0 ∷ 0 ∷ 0 ∷ 0 ∷ 0 ∷ 0 ∷ 0 ∷ 0 ∷ 0 ∷ 8 ∷ 0 ∷ 0 ∷ 0 ∷ 8 ∷ 0 ∷ 0 ∷ 0
+    ∷ 4 ∷ 16 ∷ 0 ∷ 0 ∷ 0 ∷ 0 ∷ 0 ∷ 8 ∷ 0 ∷ 0 ∷ 0 ∷ 8 ∷ 0 ∷ 0 ∷ 0 ∷ 0 ∷ 0 ∷ 0 ∷ 0
+    ∷ [])
     -- B with 1 inserted: (0,0) (2,4) (5,8) (8,8) (12,0)
-    ∷ inserted curveB 1 (parabolas (0 ∷ 0 ∷ 0 ∷ 1 ∷ 2 ∷ 4 ∷ 4 ∷ 4 ∷ []) (0 ∷ 2 ∷ 5 ∷ 8 ∷ 12 ∷ []) (0 ∷ 4 ∷ 8 ∷ 8 ∷ 0 ∷ []))
+    ∷ inserted 2 curveB 1 (curve (0 ∷ 0 ∷ 0 ∷ 1 ∷ 2 ∷ 4 ∷ 4 ∷ 4 ∷ []) (0 ∷ 2 ∷ 5 ∷ 8 ∷ 12 ∷ []) (0 ∷ 4 ∷ 8 ∷ 8 ∷ 0 ∷ []))
     -- with P_1 = (4,7) instead: 11
-    ∷ insertedNot curveB-lower 1 notWholeRefused
+    ∷ insertedNot 2 curveB-lower 1 11
     -- B with 2 inserted: (0,0) (4,8) (6,8) (8,8) (12,0); once more, 9
-    ∷ inserted curveB 2 curveB-doubled
-    ∷ insertedNot curveB-doubled 2 insertionRefused
+    ∷ inserted 2 curveB 2 curveB-doubled
+    ∷ insertedNot 2 curveB-doubled 2 9
     -- inserting 0 or 4: 9
-    ∷ insertedNot curveB 0 insertionRefused
-    ∷ insertedNot curveB 4 insertionRefused
+    ∷ insertedNot 2 curveB 0 9
+    ∷ insertedNot 2 curveB 4 9
     -- removing 2 from B: 13
-    ∷ removedNot curveB 2 notRemovableRefused
+    ∷ removedNot 2 curveB 2 13
     -- with third point (10,8): (0,0) (8,16) (12,0)
-    ∷ removed curveB-wider 2 (parabolas (0 ∷ 0 ∷ 0 ∷ 4 ∷ 4 ∷ 4 ∷ []) (0 ∷ 8 ∷ 12 ∷ []) (0 ∷ 16 ∷ 0 ∷ []))
+    ∷ removed 2 curveB-wider 2 curveB-parabola
+    -- compacting: a double knot goes, two values go, and one pass leaves what a second would take
+    ∷ compacted 2 curveC-doubled 2 curveC
+    ∷ compacted 2 curveD-refined 2 curveD
+    ∷ compacted 2 curveE 1 curveE-passed
     -- spline points (0,0), (12,0), tangents (1,1), (1,-1), parameters 0, 12: (0,0) (4,4) (8,4) (12,0)
-    ∷ joined (arch 12) (record { degree = 3; knots = 0 ∷ 0 ∷ 0 ∷ 0 ∷ 12 ∷ 12 ∷ 12 ∷ 12 ∷ []; xs = whole (0 ∷ 4 ∷ 8 ∷ 12 ∷ []); ys = whole (0 ∷ 4 ∷ 4 ∷ 0 ∷ []) })
+    ∷ joined (arch 12) (curve (0 ∷ 0 ∷ 0 ∷ 0 ∷ 12 ∷ 12 ∷ 12 ∷ 12 ∷ []) (0 ∷ 4 ∷ 8 ∷ 12 ∷ []) (0 ∷ 4 ∷ 4 ∷ 0 ∷ []))
     -- with parameters 0, 4: 11
-    ∷ joinedNot (arch 4) notWholeRefused
+    ∷ joinedNot (arch 4) 11
     ∷ []

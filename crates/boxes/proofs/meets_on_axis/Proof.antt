@@ -12,9 +12,9 @@ use mir.Val.{toZ, ofZ}
 use mir.Facts.{toZ-ofZ}
 use Rattle.signed.proofs.ReadLaws.{number-as-read}
 use Rattle.boxes.proofs.MeetingLaws.{meetsOnAxis-none, meetsOnAxis-picked}
-use Rattle.boxes.proofs.PickLaws.{pickFrom-step}
+use Rattle.boxes.proofs.PickLaws.{pickFrom, pickFrom-step}
 use Rattle.boxes.specs.Meeting.{meetsOnAxis}
-use Rattle.boxes.specs.Extent.{lesser, greater, pickFrom}
+use Rattle.boxes.specs.Extent.{lesser, greater}
 use Rattle.boxes.proofs.meets_on_axis.Statement.{statement}
 use Rattle.boxes.proofs.meets_on_axis.Tie as tie
 

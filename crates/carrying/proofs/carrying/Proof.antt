@@ -7,12 +7,12 @@ use denote.Ref.{now}
 use mathlib.Core.List.{List}
 use lib.IntN.{ℤ}
 use lib.ListN.{length}
-use Rattle.span.specs.Span.{spanOf}
+use Rattle.span.specs.Span.{spanOf, carryingOf}
 use Rattle.domain.proofs.ParameterLaws.{Within, accepted-within}
 use Rattle.domain.specs.Parameter.{parameterNumber}
 use Rattle.carrying.specs.declared.Axis.{Axis}
 use Rattle.carrying.specs.declared.Axis.the-variants.{X, Y}
-use Rattle.carrying.specs.Carrying.{onAxis, carryingOf, partOf}
+use Rattle.carrying.specs.Carrying.{onAxis, partOf}
 use Rattle.carrying.proofs.CarryingLaws.{part-accepted}
 use borrow.Author.Needs.{needs}
 use Rattle.carrying.proofs.carrying.Statement.{statement}
@@ -31,7 +31,7 @@ within-lists c i e =
 handed :
     (c : tie.After-span-of) (axis : Axis) (part : List ℤ)
     → (let x = c .before .before .before .before .args in x .axis ≡ axis)
-    → (let x = c .before .before .before .before .args in part ≡ carryingOf (x .degree) (onAxis axis (now (x .xs)) (now (x .ys))) (c .span-of .result))
+    → (let x = c .before .before .before .before .args in part ≡ carryingOf (x .degree) (c .span-of .result) (onAxis axis (now (x .xs)) (now (x .ys))))
     → (let x = c .before .before .before .before .args in
     (part ≡ partOf (x .degree) (now (x .knots)) (now (x .xs)) (now (x .ys)) (x .t) (x .axis))
     × (c .before .before .check-parameter .result ≡ parameterNumber (x .degree) (now (x .knots)) (now (x .xs)) (now (x .ys)) (x .t)))

@@ -1,4 +1,4 @@
--- `clamps::clamp_ok` meets its contract: the rectangle's test of the four sides that stand there.
+-- The rectangle's test of the four sides that stand there.
 use mathlib.Core.Path.{_∙_}
 use mir.Facts.{toZ-ofZ}
 use Rattle.clamps.proofs.SideLaws.{rectangle-same}
@@ -6,26 +6,26 @@ use borrow.Author.Needs.{needs}
 use Rattle.clamps.proofs.clamp_ok.Statement.{statement}
 use Rattle.clamps.proofs.clamp_ok.Tie as tie
 
-add-get-i32 : tie.Need-add-get-i32
-add-get-i32 c = search needs
+add-on-low-x : tie.Need-add-on-low-x
+add-on-low-x c = search needs
+
+add-on-high-x : tie.Need-add-on-high-x
+add-on-high-x c = search needs
+
+add-on-low-y : tie.Need-add-on-low-y
+add-on-low-y c = search needs
+
+add-on-high-y : tie.Need-add-on-high-y
+add-on-high-y c = search needs
 
 get-i32-requires : tie.Need-get-i32-requires
 get-i32-requires c κs = search needs
 
-add-get-i32-2 : tie.Need-add-get-i32-2
-add-get-i32-2 c = search needs
-
 get-i32-requires-2 : tie.Need-get-i32-requires-2
 get-i32-requires-2 c κs = search needs
 
-add-get-i32-3 : tie.Need-add-get-i32-3
-add-get-i32-3 c = search needs
-
 get-i32-requires-3 : tie.Need-get-i32-requires-3
 get-i32-requires-3 c κs = search needs
-
-add-get-i32-4 : tie.Need-add-get-i32-4
-add-get-i32-4 c = search needs
 
 get-i32-requires-4 : tie.Need-get-i32-requires-4
 get-i32-requires-4 c κs = search needs
@@ -43,13 +43,13 @@ pub clamp-ok-spec : {M : Type 1} → statement M
 clamp-ok-spec =
     tie.close
     (tie.spec
-    add-get-i32
+    add-on-low-x
+    add-on-high-x
+    add-on-low-y
+    add-on-high-y
     get-i32-requires
-    add-get-i32-2
     get-i32-requires-2
-    add-get-i32-3
     get-i32-requires-3
-    add-get-i32-4
     get-i32-requires-4
     sides-ok-requires
     returns)

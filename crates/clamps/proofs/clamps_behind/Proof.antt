@@ -1,6 +1,7 @@
--- `clamps::clamps_behind` meets its contract. The loop's invariant: the whole answer is that of the bytes not yet judged.
+-- The loop's invariant: the whole answer is that of the bytes not yet judged.
 use mathlib.Core.Path.{_≡_, refl, sym, _∙_}
 use Prim.Native.Nat.{_+_, _-_, _≤_}
+use Rattle.grid.specs.Limits.{clampsMost}
 use Rattle.layout.specs.Judging.{fieldAt}
 use Rattle.layout.specs.declared.Taken.the-variants.{Field, Broken as Untaken}
 use Rattle.clamps.specs.Tail.{clampRule, clampsFrom, clampsBehind}
@@ -11,10 +12,10 @@ use Rattle.clamps.proofs.clamps_behind.Statement.{statement}
 use Rattle.clamps.proofs.clamps_behind.Tie as tie
 
 abbrev Inv-loop : tie.InvT-loop
-Inv-loop bytes start at₀ count₀ at count = (count ≤ 64) × (clampsBehind bytes start ≡ clampsFrom (64 - count) bytes at count)
+Inv-loop bytes start at₀ count₀ at count = (count ≤ clampsMost) × (clampsBehind bytes start ≡ clampsFrom (clampsMost - count) bytes at count)
 
 abbrev μ-loop : tie.MeasureT-loop
-μ-loop bytes start at₀ count₀ at count = 64 - count
+μ-loop bytes start at₀ count₀ at count = clampsMost - count
 
 taken : (c : tie.After-enum-told Inv-loop μ-loop)
     → fieldAt clampRule (c .before .before .before .before .before .before .before .before .args .bytes .now) (c .before .before .before .before .before .before .loop .at) ≡ Field (c .enum-told .given .0 .0)
@@ -28,7 +29,7 @@ loop-holds c = (omega arith, refl)
 returns : tie.Need-returns Inv-loop μ-loop
 returns c =
     let loop = c .before .before in
-    sym (loop .loop .inv .1 ∙ tail-full (c .before .before .before .before .args .bytes .now) (loop .loop .at) (loop .loop .count) (c .before .loop-test .taken) (64 - loop .loop .count) (omega arith))
+    sym (loop .loop .inv .1 ∙ tail-full (c .before .before .before .before .args .bytes .now) (loop .loop .at) (loop .loop .count) (c .before .loop-test .taken) (clampsMost - loop .loop .count) (omega arith))
 
 clamp-rule-requires : tie.Need-clamp-rule-requires Inv-loop μ-loop
 clamp-rule-requires c κs = search needs
@@ -46,7 +47,7 @@ returns-2 c =
     let broken : fieldAt clampRule (c .before .before .before .before .before .before .before .before .before .args .bytes .now) (loop .loop .at) ≡ Untaken (c .before .fault .given .0 .0) =
     rw (← t .before .clamp-rule .ensures, ← t .take-field .ensures) (c .before .fault .given .1) in
     sym (loop .loop .inv .1
-    ∙ tail-broken (c .before .before .before .before .before .before .before .before .before .args .bytes .now) (loop .loop .at) (loop .loop .count) (c .before .before .before .before .before .before .loop-test .taken) (64 - loop .loop .count) (c .before .fault .given .0 .0) (omega arith) broken)
+    ∙ tail-broken (c .before .before .before .before .before .before .before .before .before .args .bytes .now) (loop .loop .at) (loop .loop .count) (c .before .before .before .before .before .before .loop-test .taken) (clampsMost - loop .loop .count) (c .before .fault .given .0 .0) (omega arith) broken)
 
 enum-told : tie.Need-enum-told Inv-loop μ-loop
 enum-told c = search needs
@@ -65,13 +66,13 @@ loop-again c =
     let loop = c .before .before .before .before .before .before in (
       omega arith,
       loop .loop .inv .1
-          ∙ tail-next (c .before .before .before .before .before .before .before .before .args .bytes .now) (loop .loop .at) (loop .loop .count) (c .before .before .before .before .before .loop-test .taken) (64 - loop .loop .count) (64 - (loop .loop .count + 1)) _ (omega arith) (taken c),
+          ∙ tail-next (c .before .before .before .before .before .before .before .before .args .bytes .now) (loop .loop .at) (loop .loop .count) (c .before .before .before .before .before .loop-test .taken) (clampsMost - loop .loop .count) (clampsMost - (loop .loop .count + 1)) _ (omega arith) (taken c),
     )
 
 returns-3 : tie.Need-returns-3 Inv-loop μ-loop
 returns-3 c =
     let loop = c .before in
-    sym (loop .loop .inv .1 ∙ tail-done (c .before .before .before .args .bytes .now) (loop .loop .at) (loop .loop .count) (64 - loop .loop .count) (c .loop-test .left))
+    sym (loop .loop .inv .1 ∙ tail-done (c .before .before .before .args .bytes .now) (loop .loop .at) (loop .loop .count) (clampsMost - loop .loop .count) (c .loop-test .left))
 
 pub clamps-behind-spec : {M : Type 1} → statement M
 clamps-behind-spec =

@@ -1,8 +1,8 @@
--- `clamps::clamps_ok` meets its contract. The loop's invariant: the whole answer is that of the clamps not yet looked at.
+-- The loop's invariant: the whole answer is that of the clamps not yet looked at.
 use mathlib.Core.Path.{_≡_, sym, ap, _∙_}
 use Prim.Native.Nat.{ℕ, _+_, _*_, _-_, _≤_}
 use borrow.Author.Tests.{not-true, not-false}
-use Rattle.clamps.specs.Clamp.{clampsAt, clampsOk}
+use Rattle.clamps.specs.Clamp.{clampFieldBytes, clampsAt, clampsOk}
 use Rattle.clamps.proofs.SideLaws.{ok-next, ok-fails, ok-done}
 use native.Mathlib.Omega.{arith}
 use Rattle.clamps.proofs.clamps_ok.Statement.{statement}
@@ -10,7 +10,7 @@ use Rattle.clamps.proofs.clamps_ok.Tie as tie
 
 abbrev Inv-loop : tie.InvT-loop
 Inv-loop bytes start count at₀ i₀ at i =
-    (i ≤ count) × (at ≡ start + 19 * i) × (clampsOk (clampsAt bytes start count) ≡ clampsOk (clampsAt bytes at (count - i)))
+    (i ≤ count) × (at ≡ start + clampFieldBytes * i) × (clampsOk (clampsAt bytes start count) ≡ clampsOk (clampsAt bytes at (count - i)))
 
 abbrev μ-loop : tie.MeasureT-loop
 μ-loop bytes start count at₀ i₀ at i = count - i

@@ -1,22 +1,23 @@
 -- A refusal leaves the lists; a curve with no inner knot is handed over as it is; whichever work lists are taken hold the curve.
-use mathlib.Core.Path.{_≡_, sym, ap, _∙_}
-use Prim.Native.Nat.{ℕ}
+use mathlib.Core.Path.{_≡_, sym, _∙_}
+use Prim.Native.Nat.{ℕ, _-_}
 use native.Mathlib.Omega.{arith}
 use lib.ListN.{length}
+use Rattle.curve.specs.Lists.{Lists, lists}
+use Rattle.curve.proofs.HandingLaws.{ends-untouched}
 use Rattle.grid.specs.Check.{Passes}
 use Rattle.grid.proofs.SizeLaws.{sizes-of-passes}
-use Rattle.compaction.specs.Compaction.{Curve}
-use Rattle.compaction.specs.Work.{Holding}
+use Rattle.compaction.specs.Work.{frontCurve, Holding}
 use Rattle.compaction.proofs.GrowLaws.{nothing-inner}
-use Rattle.compact.specs.declared.CompactAnswer.the-variants.{Refused}
-use Rattle.compact.specs.Outcome.{refused}
-use Rattle.compact.proofs.OutcomeLaws.{nothing-written, outcome-of-pass}
+use Rattle.compact.specs.declared.CompactAnswer.the-variants.{Compacted, Refused}
+use Rattle.compact.specs.Outcome.{CompactionComesTo, refused}
+use Rattle.compact.proofs.OutcomeLaws.{outcome-of-front}
 use borrow.Author.Needs.{needs}
 use Rattle.compact.proofs.compact.Statement.{statement}
 use Rattle.compact.proofs.compact.Tie as tie
 
 -- a curve holds itself
-itself : (m : ℕ) (c : Curve) → Passes m (c .knots) (c .xs) (c .ys) → Holding m (length (c .xs)) (c .knots) (c .xs) (c .ys)
+itself : (m : ℕ) (c : Lists) → Passes m (c .knots) (c .xs) (c .ys) → Holding m (length (c .xs)) (c .knots) (c .xs) (c .ys)
 itself m c p =
     let s = sizes-of-passes m (c .knots) (c .xs) (c .ys) p in
     record { roomKnots = omega (arith, s .knots); roomXs = omega arith; roomYs = omega (arith, s .as-many) }
@@ -25,21 +26,18 @@ check-requires : tie.Need-check-requires
 check-requires c κs = search needs
 
 returns : tie.Need-returns
-returns c =
-    let s = c .before .before .before .before in
-    let a = s .args in
+returns c = let a = c .before .before .before .before .args in
     let e = c .before .check .ensures in
-    refused (λ z. c .if1 .taken (e ∙ z)) (ap Refused e) (nothing-written (a .out-knots .now) (a .out-xs .now) (a .out-ys .now))
+    ends-untouched (CompactionComesTo (a .degree) (lists (a .knots .now) (a .xs .now) (a .ys .now)) (lists (a .out-knots .now) (a .out-xs .now) (a .out-ys .now))) (λ (d : Lists). Compacted (length (a .xs .now) - length (d .xs))) Refused (lists (a .out-knots .now) (a .out-xs .now) (a .out-ys .now)) (c .before .check .result) (lists (a .knots .now) (a .xs .now) (a .ys .now))
+    (refused (λ z. c .if1 .taken (e ∙ z)) e) (c .if1 .taken)
 
 add-if2 : tie.Need-add-if2
 add-if2 c = search needs
 
-answer-with-requires : tie.Need-answer-with-requires
-answer-with-requires c κs =
-    let s = c .before .before .before .before .before .before .before .before in
-    let a = s .args in
+hand-front-requires : tie.Need-hand-front-requires
+hand-front-requires c κs = let a = c .before .before .before .before .before .before .before .before .args in
     let passes = sym (c .before .before .before .before .before .check .ensures) ∙ c .before .before .before .before .if1 .left in
-    (omega arith, itself (a .degree) (record { knots = a .knots .now; xs = a .xs .now; ys = a .ys .now }) passes)
+    (omega arith, itself (a .degree) (lists (a .knots .now) (a .xs .now) (a .ys .now)) passes)
 
 same-length : tie.Need-same-length
 same-length c = search needs
@@ -51,15 +49,11 @@ same-length-3 : tie.Need-same-length-3
 same-length-3 c = search needs
 
 returns-2 : tie.Need-returns-2
-returns-2 c =
-    let s = c .before .before .before .before .before .before .before .before .before .before .before .before .before in
-    let a = s .args in
+returns-2 c = let a = c .before .before .before .before .before .before .before .before .before .before .before .before .before .args in
     let passes = sym (c .before .before .before .before .before .before .before .before .before .before .check .ensures) ∙ c .before .before .before .before .before .before .before .before .before .if1 .left in
-    let h = c .before .before .before .before .answer-with in
-    outcome-of-pass (a .degree) (record { knots = a .knots .now; xs = a .xs .now; ys = a .ys .now }) passes (a .knots .now) (a .xs .now) (a .ys .now) (length (a .xs .now)) (itself (a .degree) (record { knots = a .knots .now; xs = a .xs .now; ys = a .ys .now }) passes)
-    (nothing-inner (a .degree) (record { knots = a .knots .now; xs = a .xs .now; ys = a .ys .now }) passes (c .before .before .before .before .before .before .before .before .if2 .taken))
-    (a .out-knots .now) (a .out-xs .now) (a .out-ys .now) (h .result)
-    (h .last .1 .1 .1 .1 .1 .1 .0) (h .last .1 .1 .1 .1 .1 .1 .1 .0) (h .last .1 .1 .1 .1 .1 .1 .1 .1 .0) (h .ensures)
+    let h = c .before .before .before .before .hand-front in
+    outcome-of-front (a .degree) (lists (a .knots .now) (a .xs .now) (a .ys .now)) passes (frontCurve (a .degree) (length (a .xs .now)) (a .knots .now) (a .xs .now) (a .ys .now)) (nothing-inner (a .degree) (lists (a .knots .now) (a .xs .now) (a .ys .now)) passes (c .before .before .before .before .before .before .before .before .if2 .taken) .pass) (lists (a .out-knots .now) (a .out-xs .now) (a .out-ys .now)) (h .result)
+    (lists (h .last .1 .1 .1 .1 .1 .1 .0) (h .last .1 .1 .1 .1 .1 .1 .1 .0) (h .last .1 .1 .1 .1 .1 .1 .1 .1 .0)) (h .ensures)
 
 compact-short-requires : tie.Need-compact-short-requires
 compact-short-requires c κs = search needs
@@ -76,8 +70,8 @@ same-length-6 c = search needs
 returns-3 : tie.Need-returns-3
 returns-3 c = search needs
 
-compact-middle-requires : tie.Need-compact-middle-requires
-compact-middle-requires c κs = search needs
+compact-longest-requires : tie.Need-compact-longest-requires
+compact-longest-requires c κs = search needs
 
 same-length-7 : tie.Need-same-length-7
 same-length-7 c = search needs
@@ -91,21 +85,6 @@ same-length-9 c = search needs
 returns-4 : tie.Need-returns-4
 returns-4 c = search needs
 
-compact-longest-requires : tie.Need-compact-longest-requires
-compact-longest-requires c κs = search needs
-
-same-length-10 : tie.Need-same-length-10
-same-length-10 c = search needs
-
-same-length-11 : tie.Need-same-length-11
-same-length-11 c = search needs
-
-same-length-12 : tie.Need-same-length-12
-same-length-12 c = search needs
-
-returns-5 : tie.Need-returns-5
-returns-5 c = search needs
-
 pub compact-spec : {M : Type 1} → statement M
 compact-spec =
     tie.close
@@ -113,7 +92,7 @@ compact-spec =
     check-requires
     returns
     add-if2
-    answer-with-requires
+    hand-front-requires
     same-length
     same-length-2
     same-length-3
@@ -123,13 +102,8 @@ compact-spec =
     same-length-5
     same-length-6
     returns-3
-    compact-middle-requires
+    compact-longest-requires
     same-length-7
     same-length-8
     same-length-9
-    returns-4
-    compact-longest-requires
-    same-length-10
-    same-length-11
-    same-length-12
-    returns-5)
+    returns-4)

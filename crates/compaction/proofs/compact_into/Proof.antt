@@ -5,7 +5,7 @@ use native.Mathlib.Omega.{arith}
 use lib.ListN.{length}
 use lib.Seq.{length-take-le}
 use Rattle.grid.proofs.SizeLaws.{sizes-of-passes}
-use Rattle.compaction.specs.Compaction.{Curve}
+use Rattle.curve.specs.Lists.{Lists}
 use Rattle.compaction.proofs.GrowLaws.{Growth, growth-begins, room-knots, room-xs, room-ys, held, one-more, growth-on, growth-ends}
 use borrow.Author.Needs.{needs, sfits-of}
 use mir.Facts.{toZ-ofZ}
@@ -186,16 +186,16 @@ slice-set-from-front-ys-2 c =
     let y = c .before .before .before .before .before .before .copy-coordinates2 in
     room-ys (a .m) (record { knots = a .knots .now; xs = a .xs .now; ys = a .ys .now }) (s .pre .0) (k .last .1 .0) (x .last .1 .0) (y .last .1 .0) (held (a .m) (record { knots = a .knots .now; xs = a .xs .now; ys = a .ys .now }) (s .pre .0) (a .front-knots .now) (a .front-xs .now) (a .front-ys .now) (s .pre .1) (k .last .1 .0) (x .last .1 .0) (y .last .1 .0) (k .kept .1 .0) (x .kept .1 .0) (y .kept .1 .0)) (l .front-knots) (l .front-xs) (l .front-ys) (l .left) (l .taken) (l .inv) (c .before .before .before .loop-test .taken)
 
-add-settle : tie.Need-add-settle Inv-loop μ-loop
-add-settle c =
+add-remove-value : tie.Need-add-remove-value Inv-loop μ-loop
+add-remove-value c =
     let s = c .before .before .before .before .before .before .before .before .before .before .before .before .before .before .before .before .before .before .before .before in
     let a = s .args in
     let l = c .before .before .before .before .loop in
     let z = sizes-of-passes (a .m) (a .knots .now) (a .xs .now) (a .ys .now) (s .pre .0) in
     omega (arith, l .inv .inside, l .inv .fewer, z .most)
 
-settle-requires : tie.Need-settle-requires Inv-loop μ-loop
-settle-requires c κs =
+remove-value-requires : tie.Need-remove-value-requires Inv-loop μ-loop
+remove-value-requires c κs =
     let s = c .before .before .before .before .before .before .before .before .before .before .before .before .before .before .before .before .before .before .before .before .before .before .before in
     let a = s .args in
     let l = c .before .before .before .before .before .before .before .loop in
@@ -228,7 +228,7 @@ loop-again c =
     let k = c .before .before .before .before .before .before .before .before .before .before .before .before .before .before .before .before .before .before .before .before .before .before .before .copy-knots in
     let x = c .before .before .before .before .before .before .before .before .before .before .before .before .before .before .before .before .before .before .copy-coordinates in
     let y = c .before .before .before .before .before .before .before .before .before .before .before .before .before .before .copy-coordinates2 in
-    let o = c .before .before .before .before .settle in
+    let o = c .before .before .before .before .remove-value in
     growth-on (a .m) (record { knots = a .knots .now; xs = a .xs .now; ys = a .ys .now }) (s .pre .0) (k .last .1 .0) (x .last .1 .0) (y .last .1 .0) (held (a .m) (record { knots = a .knots .now; xs = a .xs .now; ys = a .ys .now }) (s .pre .0) (a .front-knots .now) (a .front-xs .now) (a .front-ys .now) (s .pre .1) (k .last .1 .0) (x .last .1 .0) (y .last .1 .0) (k .kept .1 .0) (x .kept .1 .0) (y .kept .1 .0)) (l .front-knots) (l .front-xs) (l .front-ys) (l .left) (l .taken) (l .inv) (c .before .before .before .before .before .before .before .before .before .before .before .loop-test .taken) (o .last .1 .1 .0) (o .last .1 .1 .1 .0) (o .last .1 .1 .1 .1 .0) (o .result) (rw (toZ-ofZ (sfits-of (c .before .before .before .before .before .before .before .before .before .front-xs2 .given)), toZ-ofZ (sfits-of (c .before .before .before .before .before .before .before .before .front-ys2 .given))) at (o .ensures)) (o .kept .1 .1 .0)
     (rw (toZ-ofZ (sfits-of (c .before .before .before .before .before .before .before .before .before .front-xs2 .given))) at (o .kept .1 .1 .1 .0)) (rw (toZ-ofZ (sfits-of (c .before .before .before .before .before .before .before .before .front-ys2 .given))) at (o .kept .1 .1 .1 .1 .0))
 
@@ -295,8 +295,8 @@ compact-into-spec =
     shared-slice-copy-out-front-ys
     mul-t32
     slice-set-from-front-ys-2
-    add-settle
-    settle-requires
+    add-remove-value
+    remove-value-requires
     add-taken
     loop-less
     loop-again

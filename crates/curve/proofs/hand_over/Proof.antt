@@ -1,5 +1,5 @@
 -- 15 and nothing, or three copies.
-use mathlib.Core.Path.{_≡_, refl, sym, _∙_}
+use mathlib.Core.Path.{refl}
 use lib.ListN.{length}
 use Rattle.refusal.proofs.JudgingLaws.{test-failed, test-passed}
 use Rattle.curve.proofs.HandingLaws.{copied-whole}

@@ -3,7 +3,7 @@ use mathlib.Core.Path.{sym, _∙_}
 use native.Mathlib.Omega.{arith}
 use denote.Ref.{now}
 use Rattle.refusal.proofs.JudgingLaws.{test-failed, test-passed}
-use Rattle.checked.proofs.CheckedLaws.{checked-of-passes}
+use Rattle.grid.proofs.SizeLaws.{sizes-of-passes}
 use Rattle.domain.proofs.ParameterLaws.{curve-refused, curve-passed}
 use borrow.Author.Needs.{needs}
 use Rattle.domain.proofs.check_parameter.Statement.{statement}
@@ -22,7 +22,7 @@ sub-in-domain : tie.Need-sub-in-domain
 sub-in-domain c =
     let x = c .before .before .before .args in
     let passes = sym (c .before .check .ensures) ∙ c .if1 .left in
-    omega (arith, checked-of-passes (x .degree) (now (x .knots)) (now (x .xs)) (now (x .ys)) passes .sizes .enough)
+    omega (arith, sizes-of-passes (x .degree) (now (x .knots)) (now (x .xs)) (now (x .ys)) passes .enough)
 
 in-domain-requires : tie.Need-in-domain-requires
 in-domain-requires c κs = search needs

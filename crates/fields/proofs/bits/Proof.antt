@@ -1,4 +1,4 @@
--- `fields::bits` meets its contract: below zero the bits are 2^32 more, and else the number itself.
+-- Below zero the bits are 2^32 more, and else the number itself.
 use mathlib.Core.Path.{_≡_, ap}
 use lib.IntN.{natAbs, pos}
 use mir.Syntax.{w32}

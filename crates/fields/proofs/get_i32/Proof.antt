@@ -1,4 +1,4 @@
--- `fields::get_i32` meets its contract: the bits that stand there, read as signed.
+-- The bits that stand there, read as signed.
 use mathlib.Core.Path.{ap, _∙_}
 use borrow.Author.Needs.{needs}
 use mir.Syntax.{w32}

@@ -1,10 +1,10 @@
--- `fields::put_head` meets its contract: its stores are a run of three.
+-- Its stores are a run of three.
 use native.Mathlib.Numerals.{add-one, add-two}
 use native.Mathlib.Omega.{arith}
 use lib.ListN.{length-set}
 use lib.Seq.{sets-eq}
 use borrow.Author.Needs.{needs}
-use Rattle.fields.specs.Bytes.{headBytes}
+use Rattle.fields.specs.Bytes.{fieldHead}
 use Rattle.fields.proofs.put_head.Statement.{statement}
 use Rattle.fields.proofs.put_head.Tie as tie
 
@@ -35,7 +35,7 @@ same-length c = simp length-set
 returns : tie.Need-returns
 returns c =
     rw (add-one (c .args .at), add-two (c .args .at))
-    (sets-eq (headBytes (c .args .tag) (c .args .len)) (c .args .out .now) (c .args .at) (c .pre))
+    (sets-eq (fieldHead (c .args .tag) (c .args .len)) (c .args .out .now) (c .args .at) (c .pre))
 
 pub put-head-spec : {M : Type 1} → statement M
 put-head-spec =

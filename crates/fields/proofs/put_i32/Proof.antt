@@ -1,4 +1,4 @@
--- `fields::put_i32` meets its contract: its stores are a run of four, of the bits that `bits` gives.
+-- Its stores are a run of four, of the bits that `bits` gives.
 use native.Mathlib.Numerals.{add-one, add-two, add-three}
 use native.Mathlib.Omega.{arith}
 use lib.ListN.{length-set}

@@ -1,4 +1,4 @@
--- `fields::put_u16` meets its contract: its stores are a run of two.
+-- Its stores are a run of two.
 use native.Mathlib.Numerals.{add-one}
 use native.Mathlib.Omega.{arith}
 use lib.ListN.{length-set}

@@ -1,4 +1,4 @@
--- `fields::signed` meets its contract: with the top bit set the number is 2^32 less, and else the bits themselves.
+-- With the top bit set the number is 2^32 less, and else the bits themselves.
 use mathlib.Core.Path.{ap, _∙_}
 use lib.IntN.{ℤ}
 use borrow.Author.Needs.{needs}

@@ -10,7 +10,7 @@ use mir.Syntax.{w32}
 use mir.ValLaws.{toZ-ofZ}
 use Rattle.lent.proofs.OverLaws.{over-length}
 use Rattle.insertion.specs.Insertion.{insertionSpan, insertedPoints}
-use Rattle.insertion.proofs.WriteLaws.{Stored, stored-more, stored-length}
+use Rattle.lent.proofs.StoreLaws.{Stored, stored-more, stored-length}
 use Rattle.insertion.proofs.PartLaws.{stored-anew, stored-since, rest-copied}
 use Rattle.insertion.proofs.SpanLaws.{span-least, span-most, span-weighed}
 use Rattle.insertion.proofs.PointLaws.{insertedPoints-length, insertedPoints-at, point-quotient, points-stored, points-rest}
@@ -93,7 +93,7 @@ loop-again c =
       omega (arith, l .inv .0),
       omega (arith, c .before .loop-test .taken),
       rw (toZ-ofZ w32 (c .quotient-at .result) (record { sfits = c .quotient-at .ok }))
-          (stored-more (c .quotient-at .result) (pos 0) (l .inv .2)
+          (stored-more (l .inv .2) (c .quotient-at .result) (pos 0)
           (omega (arith, c .before .loop-test .taken, most, insertedPoints-length (a .m) (a .knots .now) (a .ps .now) (a .v)))
           (insertedPoints-at (a .m) (a .knots .now) (a .ps .now) (a .v) (l .j) (omega (arith, c .before .loop-test .taken, most))
           ∙ point-quotient (a .m) (a .knots .now) (a .ps .now) (a .v) (insertionSpan (a .knots .now) (a .v)) (l .j)

@@ -7,7 +7,7 @@ use lib.ListN.{length, take, drop, set}
 use lib.Seq.{length-take-le}
 use Rattle.lent.proofs.OverLaws.{over-length}
 use Rattle.insertion.specs.Insertion.{insertedKnots}
-use Rattle.insertion.proofs.WriteLaws.{Stored}
+use Rattle.lent.proofs.StoreLaws.{Stored}
 use Rattle.insertion.proofs.SpanLaws.{knotsUpTo-length}
 use Rattle.insertion.proofs.KnotLaws.{insertedKnots-length, value-stored, value-rest}
 use Rattle.insertion.proofs.PartLaws.{ends-inside, rest-copied}

@@ -5,7 +5,7 @@ use native.Mathlib.Omega.{arith}
 use borrow.Author.Needs.{needs}
 use lib.ListN.{getD}
 use Rattle.insertion.specs.Insertion.{weight}
-use Rattle.insertion.proofs.MeanLaws.{pos-sub}
+use Rattle.signed.proofs.DifferenceLaws.{pos-sub}
 use Rattle.insertion.proofs.weight_at.Statement.{statement}
 use Rattle.insertion.proofs.weight_at.Tie as tie
 

@@ -1,4 +1,4 @@
--- `job::job_layout` meets its contract: the record's fields, and the clamps behind them.
+-- The record's fields, and the clamps behind them.
 use mathlib.Core.Path.{_≡_, sym, _∙_}
 use Rattle.layout.specs.Judging.{recordLayout}
 use Rattle.layout.specs.declared.Layout.the-variants.{Sound}
@@ -9,13 +9,13 @@ use borrow.Author.Needs.{needs}
 use Rattle.job.proofs.job_layout.Statement.{statement}
 use Rattle.job.proofs.job_layout.Tie as tie
 
-told : (c : tie.After-known-told)
+sound : (c : tie.After-known-told)
     → recordLayout (c .before .before .before .before .before .args .bytes .now)
     ≡ Sound (c .before .knots .given .0 .0) (c .before .knots .given .0 .1 .0) (c .before .knots .given .0 .1 .1 .0)
-told c = sym (c .before .before .before .record-layout .ensures) ∙ c .before .knots .given .1
+sound c = sym (c .before .before .before .record-layout .ensures) ∙ c .before .knots .given .1
 
 within : (c : tie.After-known-told) → Within (c .before .knots .given .0 .0) (c .before .knots .given .0 .1 .0) (c .before .knots .given .0 .1 .1 .0)
-within c = layout-within (c .before .before .before .before .before .args .bytes .now) _ _ _ (told c)
+within c = layout-within (c .before .before .before .before .before .args .bytes .now) _ _ _ (sound c)
 
 record-layout-requires : tie.Need-record-layout-requires
 record-layout-requires c κs = search needs
@@ -46,11 +46,11 @@ enum-known-fault-2 c = search needs
 
 returns : tie.Need-returns
 unfolding jobLayout
-returns c = rw (told (c .before .before .before .before), ← c .before .before .before .clamps-behind .ensures, c .before .count .given .1)
+returns c = rw (sound (c .before .before .before .before), ← c .before .before .before .clamps-behind .ensures, c .before .count .given .1)
 
 returns-2 : tie.Need-returns-2
 unfolding jobLayout
-returns-2 c = rw (told (c .before .before .before .before), ← c .before .before .before .clamps-behind .ensures, c .before .fault .given .1)
+returns-2 c = rw (sound (c .before .before .before .before), ← c .before .before .before .clamps-behind .ensures, c .before .fault .given .1)
 
 returns-3 : tie.Need-returns-3
 unfolding jobLayout

@@ -1,20 +1,33 @@
--- `job::read_job` meets its contract: sound bytes are the job of the lists in them, others are nobody's.
+-- Sound bytes are the job of the lists in them, others are nobody's.
+use mathlib.Core.List.{[]}
 use mathlib.Core.Path.{_≡_, refl, sym, _∙_}
+use Prim.Native.Nat.{_/_}
 use native.Mathlib.Nat.{le-of-eq}
+use lib.ListN.{length}
+use Rattle.curve.specs.Lists.{lists}
 use Rattle.fields.specs.Bytes.{Octets}
+use Rattle.fields.proofs.PlaceLaws.{length-entriesAt}
+use Rattle.format.specs.RecordPlaces.{recordEnd}
+use Rattle.layout.specs.StoredCurve.{degreeIn, curveIn}
+use Rattle.layout.proofs.StoredLaws.{stored-xs}
+use Rattle.clamps.specs.Clamp.{clampFieldBytes, clampAt}
 use Rattle.job.specs.JobJudging.{jobLayout}
-use Rattle.job.specs.JobReading.{lists, none}
+use Rattle.job.specs.JobReading.{isJob, isNone}
+use Rattle.job.specs.StoredJob.{clampsIn, storedNumber}
 use Rattle.job.specs.declared.JobLayout.the-variants.{Sound}
+use Rattle.job.proofs.JobReadLaws.{job-counted}
 use Rattle.job.proofs.JobLayoutLaws.{job-joined, job-run, job-few, job-of-sound, unsound-no-job}
 use borrow.Author.Needs.{needs}
 use Rattle.job.proofs.read_job.Statement.{statement}
 use Rattle.job.proofs.read_job.Tie as tie
 
-octetsAt : (c : tie.After-shared-slice-known) → Octets (c .before .args .bytes .now)
-octetsAt c = λ i. c .shared-slice-known .given i .fits
+octetsIn : (c : tie.After-shared-slice-known) → Octets (c .before .args .bytes .now)
+octetsIn c = λ i. c .shared-slice-known .given i .fits
 
-told : (c : tie.After-known-told) → jobLayout (c .before .before .before .before .before .before .args .bytes .now) ≡ Sound (c .before .knots .given .0 .0) (c .before .knots .given .0 .1 .0) (c .before .knots .given .0 .1 .1 .0) (c .before .knots .given .0 .1 .1 .1 .0)
-told c = sym (c .before .before .before .job-layout .ensures) ∙ c .before .knots .given .1
+sound : (c : tie.After-known-told)
+    → jobLayout (c .before .before .before .before .before .before .args .bytes .now)
+    ≡ Sound (c .before .knots .given .0 .0) (c .before .knots .given .0 .1 .0) (c .before .knots .given .0 .1 .1 .0) (c .before .knots .given .0 .1 .1 .1 .0)
+sound c = sym (c .before .before .before .job-layout .ensures) ∙ c .before .knots .given .1
 
 job-layout-requires : tie.Need-job-layout-requires
 job-layout-requires c κs = search needs
@@ -24,11 +37,10 @@ enum-known-knots c = search needs
 
 read-sound-requires : tie.Need-read-sound-requires
 read-sound-requires c κs =
-    let t = c .before .before .before .before in
-    let octets = octetsAt (c .before .before .before .before .before .before .before .before .before) in (
-      job-joined _ _ _ _ (c .before .before .before .before .before .before .before .before .before .before .args .bytes .now) (told t) .curve,
-      (le-of-eq (job-run (c .before .before .before .before .before .before .before .before .before .before .args .bytes .now) octets _ _ _ _ (told t) .ends), job-few (c .before .before .before .before .before .before .before .before .before .before .args .bytes .now) octets _ _ _ _ (told t)),
-    )
+    let bytes = c .before .before .before .before .before .before .before .before .before .before .args .bytes .now in
+    let known = sound (c .before .before .before .before) in
+    let octets = octetsIn (c .before .before .before .before .before .before .before .before .before) in
+    (job-joined _ _ _ _ bytes known .curve, (le-of-eq (job-run bytes octets _ _ _ _ known .ends), job-few bytes octets _ _ _ _ known))
 
 enum-told : tie.Need-enum-told
 enum-told c = search needs
@@ -47,11 +59,33 @@ same-length-4 c = search needs
 
 returns : tie.Need-returns
 returns c =
-    lists (job-of-sound (c .before .before .before .before .before .before .before .before .before .before .before .before .before .before .before .before .args .bytes .now) (octetsAt (c .before .before .before .before .before .before .before .before .before .before .before .before .before .before .before)) _ _ _ _ (told (c .before .before .before .before .before .before .before .before .before .before))) (c .before .before .before .before .before .read-sound .ensures)
+    let s = c .before .before .before .before .before .before .before .before .before .before .before .before .before .before .before .before in
+    let bytes = s .args .bytes .now in
+    let k = c .before .before .before .before .before .before .before .before .before .before .before .knots .given .0 .0 in
+    let x = c .before .before .before .before .before .before .before .before .before .before .before .knots .given .0 .1 .0 in
+    let y = c .before .before .before .before .before .before .before .before .before .before .before .knots .given .0 .1 .1 .0 in
+    let n = c .before .before .before .before .before .before .before .before .before .before .before .knots .given .0 .1 .1 .1 .0 in
+    let number = storedNumber bytes k x y n (lists (s .args .out-knots .now) (s .args .out-xs .now) (s .args .out-ys .now)) (length (s .args .clamps .now)) in
+    let read = c .before .before .before .before .before .read-sound .ensures in
+    record {
+      number = number;
+      m = degreeIn bytes;
+      c = curveIn bytes k x y;
+      cs = clampsIn bytes k x y n;
+      comesTo = isJob (job-of-sound bytes (octetsIn (c .before .before .before .before .before .before .before .before .before .before .before .before .before .before .before)) k x y n (sound (c .before .before .before .before .before .before .before .before .before .before)));
+      answers =
+          job-counted _ number (degreeIn bytes) (x / 4) n _ _ (read .answers) (stored-xs bytes k x y)
+          (length-entriesAt (clampAt bytes) clampFieldBytes (recordEnd k x y) n);
+      hands = read .hands;
+      clampsNow = read .clampsNow;
+    }
 
 returns-2 : tie.Need-returns-2
 returns-2 c =
-    none (unsound-no-job (c .before .before .before .before .before .args .bytes .now) _ (sym (c .before .before .job-layout .ensures) ∙ c .enum-told .given .1)) refl refl refl refl refl
+    let s = c .before .before .before .before .before in
+    let before = lists (s .args .out-knots .now) (s .args .out-xs .now) (s .args .out-ys .now) in
+    let nobodys = unsound-no-job (s .args .bytes .now) _ (sym (c .before .before .job-layout .ensures) ∙ c .enum-told .given .1) in
+    record { number = 16; m = 0; c = before; cs = []; comesTo = isNone nobodys 0 before []; answers = refl; hands = refl; clampsNow = refl }
 
 pub read-job-spec : {M : Type 1} → statement M
 read-job-spec =

@@ -1,98 +1,146 @@
--- A refusal leaves everything; after number 0 the three lists are written, each by its own call.
+-- A refusal leaves everything; where nothing is refused the three lists are written, each by its own call.
 use mathlib.Core.Path.{_≡_, refl, sym, ap, _∙_}
 use Prim.Native.Nat.{_+_, _-_, _*_, _≤_}
 use native.Mathlib.Omega.{arith}
 use lib.ListN.{length}
 use borrow.Author.Needs.{needs}
+use Rattle.refusal.proofs.JudgingLaws.{test-failed, test-passed, answered-refused}
+use Rattle.curve.specs.Lists.{lists}
+use Rattle.curve.specs.HandingOver.{roomFor, roomNumber}
+use Rattle.curve.proofs.ListLaws.{lists-same}
+use Rattle.curve.proofs.RoomLaws.{enough-each}
+use Rattle.curve.proofs.HandingLaws.{handedOver-refused}
 use Rattle.joined_curve.specs.Curve.{innerKnots}
-use Rattle.joining.specs.Answer.{joinRefusal}
-use Rattle.spline_pieces.specs.Standing.{Axis}
-use Rattle.joining.specs.declared.JoinAnswer.the-variants.{Joined}
-use Rattle.joining.proofs.StandingLaws.{Accepted, accepted-of, x-axis, y-axis}
 use Rattle.joined_curve.proofs.CurveLaws.{points-length}
-use Rattle.joining.proofs.RoomLaws.{room-says}
-use Rattle.joining.proofs.AnswerLaws.{refused-answer, refused-over, joined-answer, joined-over}
+use Rattle.joining.specs.SplinePoints.{splinePoints}
+use Rattle.joining.specs.Answer.{joinedLists, joinableThen}
+use Rattle.joining.specs.declared.JoinAnswer.the-variants.{Joined, Refused}
+use Rattle.joining.proofs.StandingLaws.{Joinable, joinable-of, joinable-refused, joinable-passed}
+use Rattle.joining.proofs.RoomLaws.{room-is}
 use Rattle.joining.proofs.join_through_points.Statement.{statement}
 use Rattle.joining.proofs.join_through_points.Tie as tie
 
-join-refusal-requires : tie.Need-join-refusal-requires
-join-refusal-requires c κs = search needs
+joinable-number-requires : tie.Need-joinable-number-requires
+joinable-number-requires c κs = search needs
 
 returns : tie.Need-returns
 returns c =
     let a = c .before .before .before .before .args in
-    rw (← (c .before .join-refusal .ensures))
-    (refused-answer _ _ (c .if1 .taken), refused-over innerKnots _ (a .params .now) (a .px .now) (a .py .now) (a .tx .now) (a .ty .now) (a .out-knots .now) (a .out-xs .now) (a .out-ys .now) (c .if1 .taken))
+    let s = splinePoints (a .params .now) (a .xs .now) (a .ys .now) (a .dxs .now) (a .dys .now) in
+    let before = lists (a .out-knots .now) (a .out-xs .now) (a .out-ys .now) in
+    let number = joinable-refused s (roomNumber (joinedLists innerKnots s) before) (c .before .joinable-number .ensures) (c .if1 .taken) in
+    record {
+      answers = rw number (sym (answered-refused Joined Refused _ _ (c .if1 .taken)));
+      hands = rw number (sym (handedOver-refused _ (joinedLists innerKnots s) before (c .if1 .taken)));
+    }
 
-none-refused : (c : tie.Else1) → let a = c .before .before .before .before .args in
-    joinRefusal innerKnots (a .params .now) (a .px .now) (a .py .now) (a .tx .now) (a .ty .now) (length (a .out-knots .now)) (length (a .out-xs .now)) (length (a .out-ys .now)) ≡ 0
-none-refused c = sym (c .before .join-refusal .ensures) ∙ c .if1 .left
+-- where the number is 0
+none-before : (c : tie.Else1) → let a = c .before .before .before .before .args in
+    joinableThen (splinePoints (a .params .now) (a .xs .now) (a .ys .now) (a .dxs .now) (a .dys .now)) 0 ≡ 0
+none-before c = sym (c .before .joinable-number .ensures) ∙ c .if1 .left
 
-facts : (c : tie.Else1) → let a = c .before .before .before .before .args in
-    Accepted innerKnots (a .params .now) (a .px .now) (a .py .now) (a .tx .now) (a .ty .now) (length (a .out-knots .now)) (length (a .out-xs .now)) (length (a .out-ys .now))
-facts c =
-    let a = c .before .before .before .before .args in
-    accepted-of innerKnots (a .params .now) (a .px .now) (a .py .now) (a .tx .now) (a .ty .now) (length (a .out-knots .now)) (length (a .out-xs .now)) (length (a .out-ys .now)) (none-refused c)
+joinable : (c : tie.Else1) → let a = c .before .before .before .before .args in
+    Joinable (splinePoints (a .params .now) (a .xs .now) (a .ys .now) (a .dxs .now) (a .dys .now))
+joinable c = joinable-of _ 0 (none-before c)
 
--- the axes and the room, where nothing was refused
-standing-x : (c : tie.Else1) → let a = c .before .before .before .before .args in Axis (a .params .now) (a .px .now) (a .tx .now)
-standing-x c = let a = c .before .before .before .before .args in x-axis (a .params .now) (a .px .now) (a .py .now) (a .tx .now) (a .ty .now) (facts c .points-ok)
+mul-points : tie.Need-mul-points
+mul-points c = search needs
 
-standing-y : (c : tie.Else1) → let a = c .before .before .before .before .args in Axis (a .params .now) (a .py .now) (a .ty .now)
-standing-y c = let a = c .before .before .before .before .args in y-axis (a .params .now) (a .px .now) (a .py .now) (a .tx .now) (a .ty .now) (facts c .points-ok)
+sub-points : tie.Need-sub-points
+sub-points c = omega (arith, joinable c .standing .x-axis .rising .least)
 
-room : (c : tie.Else1) → let a = c .before .before .before .before .args in
-    (3 * length (a .params .now) + 2 ≤ length (a .out-knots .now)) × (3 * length (a .params .now) ≤ length (a .out-xs .now) + 2) × (3 * length (a .params .now) ≤ length (a .out-ys .now) + 2)
+add-room-for : tie.Need-add-room-for
+add-room-for c = search needs
+
+room-for-requires : tie.Need-room-for-requires
+room-for-requires c κs = search needs
+
+-- the code's test is row 15
+room : (c : tie.After-room-for) → let a = c .before .before .before .before .before .args in
+    c .room-for .result
+    ≡ roomFor (joinedLists innerKnots (splinePoints (a .params .now) (a .xs .now) (a .ys .now) (a .dxs .now) (a .dys .now)))
+    (lists (a .out-knots .now) (a .out-xs .now) (a .out-ys .now))
 room c =
-    let a = c .before .before .before .before .args in
-    room-says (a .params .now) (a .px .now) (a .tx .now) (standing-x c .rising .least) (length (a .out-knots .now)) (length (a .out-xs .now)) (length (a .out-ys .now)) (facts c .room-ok)
-
-write-knots-requires : tie.Need-write-knots-requires
-write-knots-requires c κs = (standing-x (c .before) .rising, room (c .before) .0)
-
-write-points-requires : tie.Need-write-points-requires
-write-points-requires c κs = let e = c .before .before .before .before .before in (search (standing-x e, standing-y e), (search (facts e .x-on-grid, facts e .y-on-grid), room e .1))
-
-write-points-requires-2 : tie.Need-write-points-requires-2
-write-points-requires-2 c κs = let e = c .before .before .before .before .before .before .before .before in (search (standing-x e, standing-y e), (search (facts e .x-on-grid, facts e .y-on-grid), room e .2))
-
-mul-t11 : tie.Need-mul-t11
-mul-t11 c = search needs
-
-sub-t12 : tie.Need-sub-t12
-sub-t12 c = omega (arith, standing-x (c .before .before .before .before .before .before .before .before .before .before) .rising .least)
-
-same-length : tie.Need-same-length
-same-length c = c .before .before .before .before .before .before .before .before .write-knots .kept .1 .0
-
-same-length-2 : tie.Need-same-length-2
-same-length-2 c = c .before .before .before .before .write-points .kept .1 .1 .1 .0
-
-same-length-3 : tie.Need-same-length-3
-same-length-3 c = c .before .write-points2 .kept .1 .1 .1 .0
+    let a = c .before .before .before .before .before .args in
+    c .room-for .ensures
+    ∙ sym (room-is (splinePoints (a .params .now) (a .xs .now) (a .ys .now) (a .dxs .now) (a .dys .now))
+    (lists (a .out-knots .now) (a .out-xs .now) (a .out-ys .now)) (joinable (c .before) .standing .x-axis .rising .least))
 
 returns-2 : tie.Need-returns-2
 returns-2 c =
+    let a = c .before .before .before .before .before .before .args in
+    let s = splinePoints (a .params .now) (a .xs .now) (a .ys .now) (a .dxs .now) (a .dys .now) in
+    let before = lists (a .out-knots .now) (a .out-xs .now) (a .out-ys .now) in
+    let number = joinable-passed s (roomNumber (joinedLists innerKnots s) before) (none-before (c .before .before)) in
+    let short = test-failed (c .if2 .taken) (room (c .before)) in
+    record { answers = rw (number, short); hands = rw (number, short) }
+
+-- each lent list is long enough
+fits : (c : tie.Else2) → let a = c .before .before .before .before .before .before .args in
+    let points = 3 * length (a .params .now) - 2 in
+    (points + 4 ≤ length (a .out-knots .now)) × (points ≤ length (a .out-xs .now)) × (points ≤ length (a .out-ys .now))
+fits c = enough-each _ _ _ _ _ _ (test-passed (c .if2 .left) (c .before .room-for .ensures))
+
+write-knots-requires : tie.Need-write-knots-requires
+write-knots-requires c κs =
+    let e = c .before in
+    (joinable (e .before .before) .standing .x-axis .rising, omega (arith, fits e .0))
+
+write-points-requires : tie.Need-write-points-requires
+write-points-requires c κs =
+    let e = c .before .before .before .before .before in
+    let known = joinable (e .before .before) in
+    (known .standing .x-axis, (known .pieces-on-grid .0, omega (arith, fits e .1)))
+
+write-points-requires-2 : tie.Need-write-points-requires-2
+write-points-requires-2 c κs =
+    let e = c .before .before .before .before .before .before .before .before in
+    let known = joinable (e .before .before) in
+    (search (known .standing .x-axis, known .standing .y-axis), (search (known .pieces-on-grid .0, known .pieces-on-grid .1), omega (arith, fits e .2)))
+
+same-length : tie.Need-same-length
+same-length c = search needs
+
+same-length-2 : tie.Need-same-length-2
+same-length-2 c = search needs
+
+same-length-3 : tie.Need-same-length-3
+same-length-3 c = search needs
+
+returns-3 : tie.Need-returns-3
+returns-3 c =
     let e = c .before .before .before .before .before .before .before .before .before .before in
-    let a = c .before .before .before .before .before .before .before .before .before .before .before .before .before .before .args in
-    let count = points-length (a .params .now) (a .px .now) (a .tx .now) (standing-x e .rising .least) in (
-      ap Joined (sym count) ∙ joined-answer _ _ (none-refused e),
-      joined-over innerKnots _ (a .params .now) (a .px .now) (a .py .now) (a .tx .now) (a .ty .now) (a .out-knots .now) (a .out-xs .now) (a .out-ys .now) _ _ _ (none-refused e)
-          (c .before .before .before .before .before .before .before .before .write-knots .ensures (a .px .now) (a .tx .now)) (c .before .before .before .before .write-points .ensures) (c .before .write-points2 .ensures),
-    )
+    let a = e .before .before .before .before .before .before .args in
+    let s = splinePoints (a .params .now) (a .xs .now) (a .ys .now) (a .dxs .now) (a .dys .now) in
+    let before = lists (a .out-knots .now) (a .out-xs .now) (a .out-ys .now) in
+    let least = joinable (e .before .before) .standing .x-axis .rising .least in
+    let number = joinable-passed s (roomNumber (joinedLists innerKnots s) before) (none-before (e .before .before)) in
+    let long = test-passed (e .if2 .left) (room (e .before)) in
+    record {
+      answers = rw (number, long) (ap Joined (sym (points-length (a .params .now) (a .xs .now) (a .dxs .now) least)));
+      hands =
+          rw (number, long)
+          (lists-same
+          (c .before .before .before .before .before .before .before .before .write-knots .ensures (a .xs .now) (a .dxs .now))
+          (c .before .before .before .before .write-points .ensures)
+          (c .before .write-points2 .ensures));
+    }
 
 pub join-through-points-spec : {M : Type 1} → statement M
 join-through-points-spec =
     tie.close
     (tie.spec
-    join-refusal-requires
+    joinable-number-requires
     returns
+    mul-points
+    sub-points
+    add-room-for
+    room-for-requires
+    returns-2
     write-knots-requires
     write-points-requires
     write-points-requires-2
-    mul-t11
-    sub-t12
     same-length
     same-length-2
     same-length-3
-    returns-2)
+    returns-3)

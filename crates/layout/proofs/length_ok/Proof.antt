@@ -1,4 +1,4 @@
--- `layout::length_ok` meets its contract, test by test.
+-- Test by test.
 use mathlib.Core.Path.{sym}
 use native.Mathlib.Omega.{arith}
 use Rattle.layout.proofs.TakeLaws.{length-short, length-long, length-none, length-entries}

@@ -1,4 +1,4 @@
--- `layout::take_field` meets its contract: each way out is one of the ways of judging.
+-- Each way out is one of the ways of judging.
 use mathlib.Core.Path.{sym, ap, _∙_}
 use native.Mathlib.Omega.{arith}
 use Rattle.layout.specs.Judging.{lengthOk}

@@ -1,4 +1,4 @@
--- `layout::whole_record` meets its contract: a sound record, and then the test for a byte left over.
+-- A sound record, and then the test for a byte left over.
 use native.Mathlib.Omega.{arith}
 use mathlib.Core.Path.{_≡_, sym, _∙_}
 use Rattle.layout.specs.Judging.{recordLayout, wholeRecord}
@@ -9,13 +9,13 @@ use borrow.Author.Needs.{needs}
 use Rattle.layout.proofs.whole_record.Statement.{statement}
 use Rattle.layout.proofs.whole_record.Tie as tie
 
-told : (c : tie.After-known-told)
+sound : (c : tie.After-known-told)
     → recordLayout (c .before .before .before .before .before .args .bytes .now)
     ≡ Sound (c .before .knots .given .0 .0) (c .before .knots .given .0 .1 .0) (c .before .knots .given .0 .1 .1 .0)
-told c = sym (c .before .before .before .record-layout .ensures) ∙ c .before .knots .given .1
+sound c = sym (c .before .before .before .record-layout .ensures) ∙ c .before .knots .given .1
 
 within : (c : tie.After-known-told) → Within (c .before .knots .given .0 .0) (c .before .knots .given .0 .1 .0) (c .before .knots .given .0 .1 .1 .0)
-within c = layout-within (c .before .before .before .before .before .args .bytes .now) _ _ _ (told c)
+within c = layout-within (c .before .before .before .before .before .args .bytes .now) _ _ _ (sound c)
 
 record-layout-requires : tie.Need-record-layout-requires
 record-layout-requires c κs = search needs
@@ -34,14 +34,14 @@ add-end-3 c = omega (arith, within c)
 
 returns : tie.Need-returns
 unfolding wholeRecord
-returns c = rw (told (c .before), le-leb _ _ (c .if1 .taken))
+returns c = rw (sound (c .before), le-leb _ _ (c .if1 .taken))
 
 enum-known-fault : tie.Need-enum-known-fault
 enum-known-fault c = search needs
 
 returns-2 : tie.Need-returns-2
 unfolding wholeRecord
-returns-2 c = rw (told (c .before), lt-leb _ _ (c .if1 .left))
+returns-2 c = rw (sound (c .before), lt-leb _ _ (c .if1 .left))
 
 returns-3 : tie.Need-returns-3
 unfolding wholeRecord

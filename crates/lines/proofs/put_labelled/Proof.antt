@@ -1,6 +1,6 @@
 -- The word, then the digits behind it.
-use Rattle.lines.specs.Decimal.{decimal}
-use Rattle.lines.proofs.PutLaws.{two-first, two-second, two-joined}
+use Rattle.digits.specs.Decimal.{decimal}
+use Rattle.digits.proofs.PutLaws.{two-first, two-second, two-joined}
 use borrow.Author.Needs.{needs}
 use Rattle.lines.proofs.put_labelled.Statement.{statement}
 use Rattle.lines.proofs.put_labelled.Tie as tie

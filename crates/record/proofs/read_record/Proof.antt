@@ -1,17 +1,22 @@
--- `record::read_record` meets its contract: sound bytes are the record of the lists in them, others are nobody's.
+-- Sound bytes are the record of the lists in them, others are nobody's.
 use mathlib.Core.Path.{_≡_, refl, sym, _∙_}
+use Prim.Native.Nat.{_/_}
+use Rattle.curve.specs.Lists.{lists}
 use Rattle.layout.specs.Judging.{wholeRecord}
+use Rattle.layout.specs.StoredCurve.{degreeIn, curveIn}
 use Rattle.layout.specs.declared.Layout.the-variants.{Sound}
+use Rattle.layout.proofs.StoredLaws.{stored-xs}
 use Rattle.layout.proofs.WholeLaws.{whole-lone, record-of-sound, unsound-no-record}
-use Rattle.record.specs.Reading.{lists, none}
+use Rattle.record.specs.Reading.{isRecord, isNone}
+use Rattle.record.specs.StoredRecord.{storedNumber}
+use Rattle.record.proofs.ReadLaws.{read-counted}
 use borrow.Author.Needs.{needs}
 use Rattle.record.proofs.read_record.Statement.{statement}
 use Rattle.record.proofs.read_record.Tie as tie
 
-told : (c : tie.After-known-told)
-    → wholeRecord (c .before .before .before .before .before .before .args .bytes .now)
-    ≡ Sound (c .before .knots .given .0 .0) (c .before .knots .given .0 .1 .0) (c .before .knots .given .0 .1 .1 .0)
-told c = sym (c .before .before .before .whole-record .ensures) ∙ c .before .knots .given .1
+sound : (c : tie.After-known-told)
+    → wholeRecord (c .before .before .before .before .before .before .args .bytes .now) ≡ Sound (c .before .knots .given .0 .0) (c .before .knots .given .0 .1 .0) (c .before .knots .given .0 .1 .1 .0)
+sound c = sym (c .before .before .before .whole-record .ensures) ∙ c .before .knots .given .1
 
 whole-record-requires : tie.Need-whole-record-requires
 whole-record-requires c κs = search needs
@@ -20,7 +25,7 @@ enum-known-knots : tie.Need-enum-known-knots
 enum-known-knots c = search needs
 
 read-sound-requires : tie.Need-read-sound-requires
-read-sound-requires c κs = whole-lone _ _ _ _ (told (c .before .before .before)) .layout
+read-sound-requires c κs = whole-lone _ _ _ _ (sound (c .before .before .before)) .layout
 
 enum-told : tie.Need-enum-told
 enum-told c = search needs
@@ -37,11 +42,27 @@ same-length-3 c = search needs
 returns : tie.Need-returns
 returns c =
     let s = c .before .before .before .before .before .before .before .before .before .before .before .before .before .before in
-    lists (record-of-sound (s .args .bytes .now) (λ i. c .before .before .before .before .before .before .before .before .before .before .before .before .before .shared-slice-known .given i .fits) _ _ _ (told (c .before .before .before .before .before .before .before .before))) (c .before .before .before .before .read-sound .ensures)
+    let bytes = s .args .bytes .now in
+    let before = lists (s .args .out-knots .now) (s .args .out-xs .now) (s .args .out-ys .now) in
+    let known = sound (c .before .before .before .before .before .before .before .before) in
+    let k = c .before .before .before .before .before .before .before .before .before .knots .given .0 .0 in
+    let x = c .before .before .before .before .before .before .before .before .before .knots .given .0 .1 .0 in
+    let y = c .before .before .before .before .before .before .before .before .before .knots .given .0 .1 .1 .0 in
+    record {
+      number = storedNumber bytes k x y before;
+      m = degreeIn bytes;
+      c = curveIn bytes k x y;
+      comesTo = isRecord (record-of-sound bytes (λ i. c .before .before .before .before .before .before .before .before .before .before .before .before .before .shared-slice-known .given i .fits) k x y known);
+      answers = read-counted _ (storedNumber bytes k x y before) (degreeIn bytes) (x / 4) _ (c .before .before .before .before .read-sound .ensures .answers) (stored-xs bytes k x y);
+      hands = c .before .before .before .before .read-sound .ensures .hands;
+    }
 
 returns-2 : tie.Need-returns-2
 returns-2 c =
-    none (unsound-no-record (c .before .before .before .before .before .args .bytes .now) _ (sym (c .before .before .whole-record .ensures) ∙ c .enum-told .given .1)) refl refl refl refl
+    let s = c .before .before .before .before .before in
+    let before = lists (s .args .out-knots .now) (s .args .out-xs .now) (s .args .out-ys .now) in
+    let nobodys = unsound-no-record (s .args .bytes .now) _ (sym (c .before .before .whole-record .ensures) ∙ c .enum-told .given .1) in
+    record { number = 16; m = 0; c = before; comesTo = isNone nobodys 0 before; answers = refl; hands = refl }
 
 pub read-record-spec : {M : Type 1} → statement M
 read-record-spec =

@@ -1,13 +1,14 @@
 -- A refusal leaves the lists; else v is an inner knot, and the work lists are long enough for any curve that passes the check.
-use mathlib.Core.Path.{_≡_, sym, ap, _∙_}
+use mathlib.Core.Path.{_≡_, sym, _∙_}
 use native.Mathlib.Omega.{arith}
 use lib.ListN.{length}
+use Rattle.curve.specs.Lists.{Lists, lists}
 use Rattle.grid.proofs.SizeLaws.{sizes-of-passes}
 use Rattle.removal.specs.Polygon.{Inner}
-use Rattle.remove_knot.specs.declared.RemoveAnswer.the-variants.{Refused}
-use Rattle.remove_knot.specs.Outcome.{refused}
+use Rattle.curve.proofs.HandingLaws.{ends-untouched}
+use Rattle.remove_knot.specs.declared.RemoveAnswer.the-variants.{Removed, Refused}
+use Rattle.remove_knot.specs.Outcome.{RemovalComesTo, refused}
 use Rattle.remove_knot.proofs.JudgedLaws.{inner-of-number}
-use Rattle.remove_knot.proofs.OutcomeLaws.{nothing-written}
 use borrow.Author.Needs.{needs}
 use Rattle.remove_knot.proofs.remove_knot.Statement.{statement}
 use Rattle.remove_knot.proofs.remove_knot.Tie as tie
@@ -24,8 +25,8 @@ judge-requires c κs = search needs
 returns : tie.Need-returns
 returns c =
     let a = c .before .before .before .before .args in
-    let e = c .before .judge .ensures in
-    refused (λ z. c .if1 .taken (e ∙ z)) (ap Refused e) (nothing-written (a .out-knots .now) (a .out-xs .now) (a .out-ys .now))
+    let j = c .before .judge in
+    ends-untouched (RemovalComesTo (a .degree) (lists (a .knots .now) (a .xs .now) (a .ys .now)) (a .v) (lists (a .out-knots .now) (a .out-xs .now) (a .out-ys .now))) (λ (d : Lists). Removed (length (d .xs))) Refused (lists (a .out-knots .now) (a .out-xs .now) (a .out-ys .now)) (j .result) (lists (a .knots .now) (a .xs .now) (a .ys .now)) (refused (λ e. c .if1 .taken (j .ensures ∙ e)) (j .ensures)) (c .if1 .taken)
 
 cast-remove-within : tie.Need-cast-remove-within
 cast-remove-within c =

@@ -1,8 +1,9 @@
-use mathlib.Core.Path.{_≡_, sym, _∙_}
+-- So far as many are counted as are kept of the spans that were passed.
+use mathlib.Core.Path.{_≡_}
 use mathlib.Core.Logic.{⊎-elim}
 use mathlib.Core.List.{_∷_, []}
 use native.Mathlib.Nat.{sub-self}
-use Prim.Native.Nat.{_≤_, _-_, _+_}
+use Prim.Native.Nat.{_≤_, _-_}
 use native.Mathlib.Omega.{arith}
 use borrow.Author.Needs.{needs}
 use borrow.Author.Tests.{lt-ltb, le-ltb}
@@ -11,8 +12,6 @@ use Rattle.span_walk.specs.SpansMet.{nonEmpty, upFrom, keep, spanCount}
 use Rattle.span_walk.proofs.KeepLaws.{keep-upTo}
 use Rattle.span_walk.proofs.count_spans.Statement.{statement}
 use Rattle.span_walk.proofs.count_spans.Tie as tie
-use Rattle.span_walk.proofs.count_spans.Reads as reads
-use Rattle.span_walk.proofs.count_spans.Lts as lts
 
 abbrev Inv-loop : tie.InvT-loop
 Inv-loop knots m count so-far₀ k₀ so-far k =

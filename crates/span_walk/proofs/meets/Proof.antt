@@ -5,7 +5,8 @@ use borrow.Author.Needs.{needs}
 use Rattle.boxes.specs.Meeting.{meetsOnAxis}
 use Rattle.signed.proofs.ReadLaws.{number-as-read}
 use borrow.Author.Tests.{le-ltb, lt-ltb}
-use Rattle.span_walk.specs.SpansMet.{boxMeets, carryingOf}
+use Rattle.span.specs.Span.{carryingOf}
+use Rattle.span_walk.specs.SpansMet.{boxMeets}
 use Rattle.span_walk.proofs.meets.Statement.{statement}
 use Rattle.span_walk.proofs.meets.Tie as tie
 

@@ -3,12 +3,12 @@ use mathlib.Core.Path.{_≡_, sym, _∙_}
 use native.Mathlib.Omega.{arith}
 use mir.Syntax.{w32}
 use borrow.Author.Needs.{needs}
-use borrow.Author.Tests.{not-true, not-false}
+use Rattle.refusal.proofs.JudgingLaws.{test-failed, test-passed}
 use Rattle.signed.proofs.ReadLaws.{number-as-read}
 use Rattle.grid.specs.Check.{checkNumber}
-use Rattle.grid.specs.Sizes.{Sizes}
 use Rattle.grid.proofs.SizeLaws.{sizes-of-passes}
-use Rattle.spans_met.proofs.AnswerLaws.{sidesOk, refusal-curve, refusal-sides, refusal-lows, refusal-highs, refusal-none, ends-refused, ends-listed}
+use Rattle.span_walk.specs.SpanLists.{spanLists}
+use Rattle.spans_met.proofs.AnswerLaws.{sidesOk, number-curve, number-sides, number-lows, number-highs, number-none, ends-refused, ends-listed}
 use Rattle.spans_met.proofs.list_spans_met.Statement.{statement}
 use Rattle.spans_met.proofs.list_spans_met.Tie as tie
 
@@ -20,7 +20,7 @@ returns c =
     let a = c .before .before .before .before .before .args in
     let some : checkNumber (a .degree) (a .knots .now) (a .xs .now) (a .ys .now) ≡ 0 → ⊥ = λ z. c .if1 .taken (c .before .check .ensures ∙ z) in
     ends-refused (a .degree) (a .knots .now) (a .xs .now) (a .ys .now) (a .clamp) (a .lows .now) (a .highs .now) (c .before .check .result)
-    (refusal-curve (a .degree) (a .knots .now) (a .xs .now) (a .ys .now) (a .clamp) _ _ some ∙ sym (c .before .check .ensures))
+    (number-curve (a .degree) (a .knots .now) (a .xs .now) (a .ys .now) (a .clamp) _ _ some ∙ sym (c .before .check .ensures))
     (c .if1 .taken)
 
 sides-ok-requires : tie.Need-sides-ok-requires
@@ -34,14 +34,14 @@ passes c = sym (c .before .check .ensures) ∙ c .if1 .left
 sides : (c : tie.After-sides-ok) → c .sides-ok .result ≡ sidesOk (c .before .before .before .before .before .before .before .before .before .before .args .clamp)
 sides c =
     let clamp = c .before .before .before .before .before .before .before .before .before .before .args .clamp in
-    let told = c .before .struct-told4 .given in
-    rw (number-as-read w32 (clamp .«low_x») (told .0 .1), number-as-read w32 (clamp .«high_x») (told .1 .0 .1), number-as-read w32 (clamp .«low_y») (told .1 .1 .0 .1), number-as-read w32 (clamp .«high_y») (told .1 .1 .1 .0 .1)) at (c .sides-ok .ensures)
+    let given = c .before .struct-told4 .given in
+    rw (number-as-read w32 (clamp .«low_x») (given .0 .1), number-as-read w32 (clamp .«high_x») (given .1 .0 .1), number-as-read w32 (clamp .«low_y») (given .1 .1 .0 .1), number-as-read w32 (clamp .«high_y») (given .1 .1 .1 .0 .1)) at (c .sides-ok .ensures)
 
 returns-2 : tie.Need-returns-2
 returns-2 c =
     let a = c .before .before .before .before .before .before .before .before .before .before .before .args in
     ends-refused (a .degree) (a .knots .now) (a .xs .now) (a .ys .now) (a .clamp) (a .lows .now) (a .highs .now) 14
-    (refusal-sides (a .degree) (a .knots .now) (a .xs .now) (a .ys .now) (a .clamp) _ _ (passes (c .before .before .before .before .before .before)) (sym (sides (c .before)) ∙ not-true _ (c .if2 .taken)))
+    (number-sides (a .degree) (a .knots .now) (a .xs .now) (a .ys .now) (a .clamp) _ _ (passes (c .before .before .before .before .before .before)) (test-failed (c .if2 .taken) (sides (c .before))))
     (λ z. omega arith)
 
 count-spans-requires : tie.Need-count-spans-requires
@@ -53,35 +53,37 @@ returns-3 : tie.Need-returns-3
 returns-3 c =
     let a = c .before .before .before .before .before .before .before .before .before .before .before .before .before .args in
     ends-refused (a .degree) (a .knots .now) (a .xs .now) (a .ys .now) (a .clamp) (a .lows .now) (a .highs .now) 15
-    (refusal-lows (a .degree) (a .knots .now) (a .xs .now) (a .ys .now) (a .clamp) _ _ (passes (c .before .before .before .before .before .before .before .before)) (sym (sides (c .before .before .before)) ∙ not-false _ (c .before .before .if2 .left)) (rw (c .before .count-spans .ensures) at (c .if3 .taken)))
+    (number-lows (a .degree) (a .knots .now) (a .xs .now) (a .ys .now) (a .clamp) _ _ (passes (c .before .before .before .before .before .before .before .before)) (test-passed (c .before .before .if2 .left) (sides (c .before .before .before))) (rw (c .before .count-spans .ensures) at (c .if3 .taken)))
     (λ z. omega arith)
 
 returns-4 : tie.Need-returns-4
 returns-4 c =
     let a = c .before .before .before .before .before .before .before .before .before .before .before .before .before .before .args in
     ends-refused (a .degree) (a .knots .now) (a .xs .now) (a .ys .now) (a .clamp) (a .lows .now) (a .highs .now) 15
-    (refusal-highs (a .degree) (a .knots .now) (a .xs .now) (a .ys .now) (a .clamp) _ _ (passes (c .before .before .before .before .before .before .before .before .before)) (sym (sides (c .before .before .before .before)) ∙ not-false _ (c .before .before .before .if2 .left)) (rw (c .before .before .count-spans .ensures) at (c .if4 .taken)))
+    (number-highs (a .degree) (a .knots .now) (a .xs .now) (a .ys .now) (a .clamp) _ _ (passes (c .before .before .before .before .before .before .before .before .before)) (test-passed (c .before .before .before .if2 .left) (sides (c .before .before .before .before))) (rw (c .before .before .count-spans .ensures) at (c .if4 .taken)))
     (λ z. omega arith)
 
-fill-requires : tie.Need-fill-requires
-fill-requires c κs =
-    let size = sizes-of-passes _ _ _ _ (passes (c .before .before .before .before .before .before .before .before .before .before .before)) in
-    (size .degree-least, omega arith, size .as-many, omega arith, rw (c .before .before .before .before .count-spans .ensures) at (c .before .before .before .if3 .left), rw (c .before .before .before .before .count-spans .ensures) at (c .before .before .if4 .left))
+list-met-requires : tie.Need-list-met-requires
+list-met-requires c κs =
+    let places = c .before .before .before .before .count-spans .ensures in (
+      sizes-of-passes _ _ _ _ (passes (c .before .before .before .before .before .before .before .before .before .before .before)),
+      (rw places at (c .before .before .before .if3 .left), rw places at (c .before .before .if4 .left)),
+    )
 
 same-length : tie.Need-same-length
-same-length c = c .before .before .before .before .fill .kept .1 .1 .1 .1 .1 .0
+same-length c = c .before .before .before .before .list-met .kept .1 .1 .1 .1 .1 .0
 
 same-length-2 : tie.Need-same-length-2
-same-length-2 c = c .before .before .before .before .fill .kept .1 .1 .1 .1 .1 .1 .0
+same-length-2 c = c .before .before .before .before .list-met .kept .1 .1 .1 .1 .1 .1 .0
 
 returns-5 : tie.Need-returns-5
 returns-5 c =
     let a = c .before .before .before .before .before .before .before .before .before .before .before .before .before .before .before .before .before .before .before .before .before .args in
-    let filled = c .before .before .before .before .fill .ensures in
+    let filled = c .before .before .before .before .list-met .ensures in
     let places = c .before .before .before .before .before .before .before .before .before .count-spans .ensures in
-    ends-listed (a .degree) (a .knots .now) (a .xs .now) (a .ys .now) (a .clamp) (a .lows .now) (a .highs .now) _ _ _
-    (refusal-none (a .degree) (a .knots .now) (a .xs .now) (a .ys .now) (a .clamp) _ _ (passes (c .before .before .before .before .before .before .before .before .before .before .before .before .before .before .before .before)) (sym (sides (c .before .before .before .before .before .before .before .before .before .before .before)) ∙ not-false _ (c .before .before .before .before .before .before .before .before .before .before .if2 .left)) (rw places at (c .before .before .before .before .before .before .before .before .if3 .left)) (rw places at (c .before .before .before .before .before .before .before .if4 .left)))
-    (filled .0) (filled .1 .0) (filled .1 .1)
+    ends-listed (a .degree) (a .knots .now) (a .xs .now) (a .ys .now) (a .clamp) (spanLists (a .lows .now) (a .highs .now)) _ _
+    (number-none (a .degree) (a .knots .now) (a .xs .now) (a .ys .now) (a .clamp) _ _ (passes (c .before .before .before .before .before .before .before .before .before .before .before .before .before .before .before .before)) (test-passed (c .before .before .before .before .before .before .before .before .before .before .if2 .left) (sides (c .before .before .before .before .before .before .before .before .before .before .before))) (rw places at (c .before .before .before .before .before .before .before .before .if3 .left)) (rw places at (c .before .before .before .before .before .before .before .if4 .left)))
+    (filled .0) (filled .1)
 
 pub list-spans-met-spec : {M : Type 1} → statement M
 list-spans-met-spec =
@@ -94,7 +96,7 @@ list-spans-met-spec =
     count-spans-requires
     returns-3
     returns-4
-    fill-requires
+    list-met-requires
     same-length
     same-length-2
     returns-5)

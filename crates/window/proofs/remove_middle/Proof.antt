@@ -26,8 +26,8 @@ add-fewer-2 c = search needs
 array-share-prefix-ks : tie.Need-array-share-prefix-ks
 array-share-prefix-ks c = search needs
 
-slice-aggregate-remove-through : tie.Need-slice-aggregate-remove-through
-slice-aggregate-remove-through c =
+slice-aggregate-remove-by-axes : tie.Need-slice-aggregate-remove-by-axes
+slice-aggregate-remove-by-axes c =
     let s = c .before .before .before .before .before .before .before in
     let m = s .args .m in
     let k = c .before .before .before .before .close in
@@ -38,21 +38,21 @@ slice-aggregate-remove-through c =
 array-borrow-prefix-px : tie.Need-array-borrow-prefix-px
 array-borrow-prefix-px c = search needs
 
-slice-aggregate-remove-through-2 : tie.Need-slice-aggregate-remove-through-2
-slice-aggregate-remove-through-2 c =
+slice-aggregate-remove-by-axes-2 : tie.Need-slice-aggregate-remove-by-axes-2
+slice-aggregate-remove-by-axes-2 c =
     let s = c .before .before .before .before .before .before .before .before in
     sym (length-take-le (s .args .m + 1) (replicate 4 (pos 0)) (omega (arith, s .pre .most)))
 
 array-borrow-prefix-py : tie.Need-array-borrow-prefix-py
 array-borrow-prefix-py c = search needs
 
-slice-aggregate-remove-through-3 : tie.Need-slice-aggregate-remove-through-3
-slice-aggregate-remove-through-3 c =
+slice-aggregate-remove-by-axes-3 : tie.Need-slice-aggregate-remove-by-axes-3
+slice-aggregate-remove-by-axes-3 c =
     let s = c .before .before .before .before .before .before .before .before .before in
     sym (length-take-le (s .args .m + 1) (replicate 4 (pos 0)) (omega (arith, s .pre .most)))
 
-remove-through-requires : tie.Need-remove-through-requires
-remove-through-requires c κs =
+remove-by-axes-requires : tie.Need-remove-by-axes-requires
+remove-by-axes-requires c κs =
     let s = c .before .before .before .before .before .before .before .before .before in
     let m = s .args .m in
     let k = c .before .before .before .before .before .before .close in
@@ -82,12 +82,12 @@ remove-middle-spec =
     add-fewer
     add-fewer-2
     array-share-prefix-ks
-    slice-aggregate-remove-through
+    slice-aggregate-remove-by-axes
     array-borrow-prefix-px
-    slice-aggregate-remove-through-2
+    slice-aggregate-remove-by-axes-2
     array-borrow-prefix-py
-    slice-aggregate-remove-through-3
-    remove-through-requires
+    slice-aggregate-remove-by-axes-3
+    remove-by-axes-requires
     same-length
     same-length-2
     same-length-3

@@ -1,25 +1,24 @@
--- Row 4: whether the whole list falls somewhere is what the flag and the rest say together, the rest from the knot before it.
-use mathlib.Core.Bool.{_&&_, and-true, and-false}
+-- Row 4: the flag says whether a knot that was passed falls; then the last one decides.
 use mathlib.Core.Logic.{⊎-elim}
-use mathlib.Core.Path.{_≡_, refl, sym, _∙_}
-use Prim.Native.Nat.{_+_, _≤_, _-_, zero-le}
+use mathlib.Core.Path.{sym}
+use Prim.Native.Nat.{_≤_, _-_}
 use borrow.Author.Needs.{needs}
 use borrow.Author.Tests.{not-true, not-false}
 use native.Mathlib.Omega.{arith}
-use lib.ListN.{length, getD, drop}
-use Rattle.grid.specs.Rows.{knotOrderOk}
-use Rattle.grid.proofs.OrderLaws.{neverFalls, order-on, order-falls, order-end, order-of-last}
+use lib.ListN.{length}
+use Rattle.grid.proofs.FlagLaws.{Flagged, flagged-none, flagged-wrong, flagged-right}
+use Rattle.grid.proofs.OrderLaws.{Falls, order-falls, order-by-last}
 use Rattle.grid.proofs.order.knot_order_ok.Statement.{statement}
 use Rattle.grid.proofs.order.knot_order_ok.Tie as tie
 
 abbrev Inv-loop : tie.InvT-loop
-Inv-loop knots fine₀ i₀ fine i = (1 ≤ i) × (i ≤ length knots) × (neverFalls 0 knots ≡ (fine && neverFalls (getD knots (i - 1) 0) (drop i knots)))
+Inv-loop knots fine₀ i₀ fine i = (i ≤ length knots) × Flagged (Falls knots) 1 i fine
 
 abbrev μ-loop : tie.MeasureT-loop
 μ-loop knots fine₀ i₀ fine i = length knots - i
 
 loop-holds : tie.Need-loop-holds Inv-loop μ-loop
-loop-holds c = (search needs, omega arith, order-on (c .args .knots .now) 0 0 (omega arith) zero-le)
+loop-holds c = (omega arith, flagged-none (Falls (c .args .knots .now)) 1)
 
 mul-if1 : tie.Need-mul-if1 Inv-loop μ-loop
 mul-if1 c = search needs
@@ -44,15 +43,11 @@ loop-less c = omega arith
 
 loop-again : tie.Need-loop-again Inv-loop μ-loop
 loop-again c =
-    let turn = c .before .before .before .before .loop in
-    let ks = c .before .before .before .before .before .args .knots .now in
-    let low = getD ks (turn .i - 1) 0 in
-    let back : turn .i + 1 - 1 ≡ turn .i = omega arith in (
-      omega arith,
+    let turn = c .before .before .before .before .loop in (
       omega arith,
       ⊎-elim
-          (λ w. rw (w .1) (turn .inv .2 ∙ rw (order-falls ks low (turn .i) (omega arith) (w .0 .taken)) (and-false (turn .fine))))
-          (λ w. rw (w .1, back) (turn .inv .2 ∙ rw (order-on ks low (turn .i) (omega arith) (w .0 .left))))
+          (λ w. flagged-wrong (turn .inv .1) _ (w .0 .taken) (w .1))
+          (λ w. let kept = w .0 .left in flagged-right (turn .inv .1) _ (λ q. omega arith) (w .1))
           (c .if1 .came),
     )
 
@@ -60,7 +55,8 @@ returns : tie.Need-returns Inv-loop μ-loop
 returns c =
     let turn = c .before .before .loop in
     let ks = c .before .before .before .args .knots .now in
-    sym (order-of-last ks (omega arith) ∙ rw (turn .inv .2, not-true (turn .fine) (c .if2 .taken)))
+    let wrong = turn .inv .1 .one (not-true (turn .fine) (c .if2 .taken)) in
+    sym (order-falls ks (wrong .0) (wrong .2) (omega (arith, wrong .1)) (wrong .3))
 
 sub-result : tie.Need-sub-result Inv-loop μ-loop
 sub-result c = search needs
@@ -75,8 +71,8 @@ returns-2 : tie.Need-returns-2 Inv-loop μ-loop
 returns-2 c =
     let turn = c .before .before .before .loop in
     let ks = c .before .before .before .before .args .knots .now in
-    let low = getD ks (turn .i - 1) 0 in
-    sym (order-of-last ks (omega arith) ∙ rw (turn .inv .2, not-false (turn .fine) (c .before .if2 .left), order-end ks low (turn .i) (omega arith)))
+    let none = turn .inv .1 .none (not-false (turn .fine) (c .before .if2 .left)) in
+    order-by-last ks (λ j l. none j (omega arith)) (omega arith)
 
 pub knot-order-ok-spec : {M : Type 1} → statement M
 knot-order-ok-spec =

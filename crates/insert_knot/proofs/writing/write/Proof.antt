@@ -1,5 +1,6 @@
 -- Each list is written by its own call.
 use native.Mathlib.Omega.{arith}
+use Rattle.curve.proofs.ListLaws.{lists-same}
 use borrow.Author.Needs.{needs}
 use Rattle.insertion.proofs.SpanLaws.{upTo-least, span-of-upTo}
 use Rattle.insert_knot.proofs.writing.write.Statement.{statement}
@@ -36,7 +37,9 @@ same-length-3 : tie.Need-same-length-3
 same-length-3 c = search needs
 
 returns : tie.Need-returns
-returns c = search needs
+returns c =
+    let k = c .before .before .before .before .before .before .before .before .insert-value in
+    lists-same (k .ensures) (c .before .before .before .before .insert-points .ensures) (c .before .insert-points2 .ensures)
 
 pub write-spec : {M : Type 1} → statement M
 write-spec =

@@ -26,8 +26,8 @@ returns c =
 quotient-requires : tie.Need-quotient-requires
 quotient-requires c κs = search needs
 
-on-grid-requires : tie.Need-on-grid-requires
-on-grid-requires c κs = search needs
+on-grid-wide-requires : tie.Need-on-grid-wide-requires
+on-grid-wide-requires c κs = search needs
 
 returns-2 : tie.Need-returns-2
 returns-2 c =
@@ -37,9 +37,9 @@ returns-2 c =
     let none : divides (pos (s .args .d)) (s .args .z) ≡ true =
     ap (divides (pos (s .args .d))) (sym (toZ-ofZ w64 (s .args .z) (s .fits .z))) ∙ sym (r .ensures) ∙ not-false (r .result) (c .before .before .if1 .left) in
     rw none
-    (c .on-grid .ensures
+    (c .on-grid-wide .ensures
     ∙ ap onGrid (toZ-ofZ w64 (q .result) (record { sfits = q .ok }) ∙ q .ensures ∙ ap (λ (z : ℤ). quotZ z (pos (s .args .d))) (toZ-ofZ w64 (s .args .z) (s .fits .z))))
 
 pub is-point-spec : {M : Type 1} → statement M
 is-point-spec =
-    tie.close (tie.spec is-multiple-requires returns quotient-requires on-grid-requires returns-2)
+    tie.close (tie.spec is-multiple-requires returns quotient-requires on-grid-wide-requires returns-2)

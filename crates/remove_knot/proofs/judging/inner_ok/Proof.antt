@@ -1,63 +1,54 @@
--- Each comparison of row 12 in turn.
+-- Inside the domain, and the last knot up to v is v.
+use mathlib.Core.Bool.{true}
 use mathlib.Core.Path.{_≡_}
 use native.Mathlib.Omega.{arith}
-use Rattle.remove_knot.proofs.JudgedLaws.{inner-low, inner-high, inner-stands}
+use lib.ListN.{length}
+use Rattle.refusal.proofs.JudgingLaws.{test-failed, test-passed}
+use Rattle.span.specs.Span.{strictlyInside}
+use Rattle.grid.proofs.CheckLaws.{passes-tests}
+use Rattle.insertion.proofs.CheckedLaws.{inside-ends, insertable-xs}
+use Rattle.insertion.proofs.SpanLaws.{upTo-least}
+use Rattle.remove_knot.specs.Judged.{innerOk}
 use borrow.Author.Needs.{needs}
 use Rattle.remove_knot.proofs.judging.inner_ok.Statement.{statement}
 use Rattle.remove_knot.proofs.judging.inner_ok.Tie as tie
 
-mul-wide : tie.Need-mul-wide
-mul-wide c = search needs
-
-shared-slice-read-wide : tie.Need-shared-slice-read-wide
-shared-slice-read-wide c = search needs
-
-wide-requires : tie.Need-wide-requires
-wide-requires c κs = search needs
-
-mul-wide-2 : tie.Need-mul-wide-2
-mul-wide-2 c = search needs
-
-shared-slice-read-wide-2 : tie.Need-shared-slice-read-wide-2
-shared-slice-read-wide-2 c = search needs
-
-wide-requires-2 : tie.Need-wide-requires-2
-wide-requires-2 c κs = search needs
+strictly-inside-requires : tie.Need-strictly-inside-requires
+strictly-inside-requires c κs = search needs
 
 returns : tie.Need-returns
-returns c =
-    let a = c .before .before .before .before .before .before .args in
-    inner-low (a .m) (a .knots .now) (a .xs .now) (a .v) (omega (arith, c .if1 .taken, c .before .before .before .wide .ensures))
+unfolding innerOk
+returns c = rw (test-failed (c .if1 .taken) (c .before .strictly-inside .ensures))
 
-returns-2 : tie.Need-returns-2
-returns-2 c =
-    let a = c .before .before .before .before .before .before .before .args in
-    inner-high (a .m) (a .knots .now) (a .xs .now) (a .v)
-    (omega (arith, c .before .if1 .left, c .before .before .before .before .wide .ensures))
-    (omega (arith, c .if2 .taken, c .before .before .wide2 .ensures))
+-- v lies inside the domain
+inside : (c : tie.Else1) → strictlyInside (c .before .before .before .args .knots .now) (c .before .before .before .args .m) (length (c .before .before .before .args .xs .now)) (c .before .before .before .args .v) ≡ true
+inside c = test-passed (c .if1 .left) (c .before .strictly-inside .ensures)
+
+cast-value : tie.Need-cast-value
+cast-value c = let a = c .before .before .before .args in
+    omega (arith, inside-ends (a .knots .now) (a .m) (length (a .xs .now)) (a .v) (inside c) .1, c .before .before .shared-slice-known .given (length (a .xs .now)))
+
+knots-up-to-requires : tie.Need-knots-up-to-requires
+knots-up-to-requires c κs = search needs
 
 stands-requires : tie.Need-stands-requires
-stands-requires c κs = search needs
+stands-requires c κs = let s = c .before .before .before .before in
+    let a = s .args in
+    let ends = inside-ends (a .knots .now) (a .m) (length (a .xs .now)) (a .v) (inside (c .before)) in
+    let least = upTo-least (a .m) (a .knots .now) (a .xs .now) (a .v) (insertable-xs (a .m) (a .knots .now) (a .xs .now) (a .ys .now) (a .v) (s .pre) (omega (arith, ends .0)) (ends .1)) in
+    (passes-tests (a .m) (a .knots .now) (a .xs .now) (a .ys .now) (s .pre) .order, (c .knots-up-to .ensures, (omega arith, omega (arith, least, c .knots-up-to .ensures))))
 
-returns-3 : tie.Need-returns-3
-returns-3 c =
-    let a = c .before .before .before .before .before .before .before .before .args in
-    rw (c .stands .ensures)
-    (inner-stands (a .m) (a .knots .now) (a .xs .now) (a .v)
-    (omega (arith, c .before .before .if1 .left, c .before .before .before .before .before .wide .ensures))
-    (omega (arith, c .before .if2 .left, c .before .before .before .wide2 .ensures)))
+returns-2 : tie.Need-returns-2
+unfolding innerOk
+returns-2 c = rw (inside (c .before .before)) (c .stands .ensures)
 
 pub inner-ok-spec : {M : Type 1} → statement M
 inner-ok-spec =
     tie.close
     (tie.spec
-    mul-wide
-    shared-slice-read-wide
-    wide-requires
-    mul-wide-2
-    shared-slice-read-wide-2
-    wide-requires-2
+    strictly-inside-requires
     returns
-    returns-2
+    cast-value
+    knots-up-to-requires
     stands-requires
-    returns-3)
+    returns-2)

@@ -1,8 +1,6 @@
 -- The check first, then row 12.
 use mathlib.Core.Path.{_≡_, sym, _∙_}
-use native.Mathlib.Omega.{arith}
 use borrow.Author.Tests.{not-true, not-false}
-use Rattle.grid.proofs.SizeLaws.{sizes-of-passes}
 use Rattle.remove_knot.proofs.JudgedLaws.{number-refused, number-not-inner, number-accepted}
 use borrow.Author.Needs.{needs}
 use Rattle.remove_knot.proofs.judging.judge.Statement.{statement}
@@ -17,10 +15,7 @@ returns c =
     c .before .check .ensures ∙ number-refused (a .degree) (a .knots .now) (a .xs .now) (a .ys .now) (a .v) (λ e. c .if1 .taken (c .before .check .ensures ∙ e))
 
 inner-ok-requires : tie.Need-inner-ok-requires
-inner-ok-requires c κs =
-    let a = c .before .before .before .args in
-    let s = sizes-of-passes (a .degree) (a .knots .now) (a .xs .now) (a .ys .now) (sym (c .before .check .ensures) ∙ c .if1 .left) in
-    (omega (arith, s .knots, s .enough), omega (arith, s .knots))
+inner-ok-requires c κs = sym (c .before .check .ensures) ∙ c .if1 .left
 
 returns-2 : tie.Need-returns-2
 returns-2 c =

@@ -1,12 +1,12 @@
 -- A polygon or none; then the handing over.
-use mathlib.Core.Bool.{Bool, cond}
-use mathlib.Core.Path.{_≡_, subst}
 use native.Mathlib.Omega.{arith}
 use lib.ListN.{length}
 use borrow.Author.Tests.{not-true, not-false}
+use Rattle.curve.specs.Lists.{Lists, lists}
+use Rattle.curve.proofs.HandingLaws.{ends-refused, ends-untouched, ends-done}
 use Rattle.remove_knot.specs.declared.RemoveAnswer.the-variants.{Removed, Refused}
-use Rattle.remove_knot.specs.Outcome.{RemovalOutcome}
-use Rattle.remove_knot.proofs.OutcomeLaws.{outcome-none, outcome-handed}
+use Rattle.remove_knot.specs.Outcome.{RemovalComesTo, notRemovable, removed}
+use Rattle.remove_knot.proofs.JudgedLaws.{number-of-inner}
 use borrow.Author.Needs.{needs}
 use Rattle.remove_knot.proofs.work.remove_checked.Statement.{statement}
 use Rattle.remove_knot.proofs.work.remove_checked.Tie as tie
@@ -24,11 +24,12 @@ same-length-3 : tie.Need-same-length-3
 same-length-3 c = search needs
 
 returns : tie.Need-returns
-returns c =
-    let r = c .before .before .before .before .before .remove-polygon in
-    let s = c .before .before .before .before .before .before .before .before .before .before .before .before in
+returns c = let s = c .before .before .before .before .before .before .before .before .before .before .before .before in
     let a = s .args in
-    outcome-none (a .m) (a .knots .now) (a .xs .now) (a .ys .now) (a .v) (s .pre .0) (a .out-knots .now) (a .out-xs .now) (a .out-ys .now) (r .last .1 .1 .1 .1 .1 .0) (r .last .1 .1 .1 .1 .1 .1 .0) (r .last .1 .1 .1 .1 .1 .1 .1 .0) (r .result) (r .ensures) (not-true (r .result) (c .if1 .taken))
+    let r = c .before .before .before .before .before .remove-polygon in
+    ends-untouched (RemovalComesTo (a .m) (lists (a .knots .now) (a .xs .now) (a .ys .now)) (a .v) (lists (a .out-knots .now) (a .out-xs .now) (a .out-ys .now))) (λ (d : Lists). Removed (length (d .xs))) Refused (lists (a .out-knots .now) (a .out-xs .now) (a .out-ys .now)) 13 (lists (a .knots .now) (a .xs .now) (a .ys .now))
+    (notRemovable (number-of-inner (a .m) (a .knots .now) (a .xs .now) (a .ys .now) (a .v) (s .pre .0)) (r .ensures .none (not-true (r .result) (c .if1 .taken))) (omega arith))
+    (λ e. omega arith)
 
 hand-over-requires : tie.Need-hand-over-requires
 hand-over-requires c κs = search needs
@@ -52,17 +53,13 @@ same-length-9 : tie.Need-same-length-9
 same-length-9 c = search needs
 
 returns-2 : tie.Need-returns-2
-returns-2 c =
-    let s = c .before .before .before .before .before .before .before .before .before .before .before .before .before .before .before .before .before .before .before .before .before .before .before .before in
+returns-2 c = let s = c .before .before .before .before .before .before .before .before .before .before .before .before .before .before .before .before .before .before .before .before .before .before .before .before in
     let a = s .args in
     let r = c .before .before .before .before .before .before .before .before .before .before .before .before .before .before .before .before .before .remove-polygon in
     let h = c .before .before .before .before .before .hand-over in
-    let e = h .ensures in
-    subst (λ (x : Bool). RemovalOutcome (a .m) (a .knots .now) (a .xs .now) (a .ys .now) (a .v) (a .out-knots .now) (a .out-xs .now) (a .out-ys .now) (cond x (Removed (length (r .last .1 .1 .1 .1 .1 .1 .0))) (Refused 15)) (h .last .1 .1 .1 .0) (h .last .1 .1 .1 .1 .0) (h .last .1 .1 .1 .1 .1 .0))
-    (not-true (h .result) (c .if2 .taken))
-    (outcome-handed (a .m) (a .knots .now) (a .xs .now) (a .ys .now) (a .v) (s .pre .0) (a .out-knots .now) (a .out-xs .now) (a .out-ys .now) (r .last .1 .1 .1 .1 .1 .0) (r .last .1 .1 .1 .1 .1 .1 .0) (r .last .1 .1 .1 .1 .1 .1 .1 .0) (r .result) (r .ensures) (not-false (r .result) (c .before .before .before .before .before .before .before .before .before .before .before .before .if1 .left))
-    (omega (arith, r .kept .1 .1 .1 .1 .1 .0, s .pre)) (omega (arith, r .kept .1 .1 .1 .1 .1 .1 .0, s .pre)) (omega (arith, r .kept .1 .1 .1 .1 .1 .1 .1 .0, s .pre))
-    (h .result) (h .last .1 .1 .1 .0) (h .last .1 .1 .1 .1 .0) (h .last .1 .1 .1 .1 .1 .0) (e .0) (e .1 .0) (e .1 .1 .0) (e .1 .1 .1))
+    ends-refused (RemovalComesTo (a .m) (lists (a .knots .now) (a .xs .now) (a .ys .now)) (a .v) (lists (a .out-knots .now) (a .out-xs .now) (a .out-ys .now))) (λ (d : Lists). Removed (length (d .xs))) Refused (lists (a .out-knots .now) (a .out-xs .now) (a .out-ys .now)) (h .result) (lists (r .last .1 .1 .1 .1 .1 .0) (r .last .1 .1 .1 .1 .1 .1 .0) (r .last .1 .1 .1 .1 .1 .1 .1 .0))
+    (removed (number-of-inner (a .m) (a .knots .now) (a .xs .now) (a .ys .now) (a .v) (s .pre .0)) (r .ensures .found (not-false (r .result) (c .before .before .before .before .before .before .before .before .before .before .before .before .if1 .left))) (h .ensures .0))
+    (lists (h .last .1 .1 .1 .0) (h .last .1 .1 .1 .1 .0) (h .last .1 .1 .1 .1 .1 .0)) (c .if2 .taken) (h .ensures .1)
 
 same-length-10 : tie.Need-same-length-10
 same-length-10 c = search needs
@@ -83,17 +80,13 @@ same-length-15 : tie.Need-same-length-15
 same-length-15 c = search needs
 
 returns-3 : tie.Need-returns-3
-returns-3 c =
-    let s = c .before .before .before .before .before .before .before .before .before .before .before .before .before .before .before .before .before .before .before .before .before .before .before .before in
+returns-3 c = let s = c .before .before .before .before .before .before .before .before .before .before .before .before .before .before .before .before .before .before .before .before .before .before .before .before in
     let a = s .args in
     let r = c .before .before .before .before .before .before .before .before .before .before .before .before .before .before .before .before .before .remove-polygon in
     let h = c .before .before .before .before .before .hand-over in
-    let e = h .ensures in
-    subst (λ (x : Bool). RemovalOutcome (a .m) (a .knots .now) (a .xs .now) (a .ys .now) (a .v) (a .out-knots .now) (a .out-xs .now) (a .out-ys .now) (cond x (Removed (length (r .last .1 .1 .1 .1 .1 .1 .0))) (Refused 15)) (h .last .1 .1 .1 .0) (h .last .1 .1 .1 .1 .0) (h .last .1 .1 .1 .1 .1 .0))
-    (not-false (h .result) (c .if2 .left))
-    (outcome-handed (a .m) (a .knots .now) (a .xs .now) (a .ys .now) (a .v) (s .pre .0) (a .out-knots .now) (a .out-xs .now) (a .out-ys .now) (r .last .1 .1 .1 .1 .1 .0) (r .last .1 .1 .1 .1 .1 .1 .0) (r .last .1 .1 .1 .1 .1 .1 .1 .0) (r .result) (r .ensures) (not-false (r .result) (c .before .before .before .before .before .before .before .before .before .before .before .before .if1 .left))
-    (omega (arith, r .kept .1 .1 .1 .1 .1 .0, s .pre)) (omega (arith, r .kept .1 .1 .1 .1 .1 .1 .0, s .pre)) (omega (arith, r .kept .1 .1 .1 .1 .1 .1 .1 .0, s .pre))
-    (h .result) (h .last .1 .1 .1 .0) (h .last .1 .1 .1 .1 .0) (h .last .1 .1 .1 .1 .1 .0) (e .0) (e .1 .0) (e .1 .1 .0) (e .1 .1 .1))
+    ends-done (RemovalComesTo (a .m) (lists (a .knots .now) (a .xs .now) (a .ys .now)) (a .v) (lists (a .out-knots .now) (a .out-xs .now) (a .out-ys .now))) (λ (d : Lists). Removed (length (d .xs))) Refused (lists (a .out-knots .now) (a .out-xs .now) (a .out-ys .now)) (h .result) (lists (r .last .1 .1 .1 .1 .1 .0) (r .last .1 .1 .1 .1 .1 .1 .0) (r .last .1 .1 .1 .1 .1 .1 .1 .0))
+    (removed (number-of-inner (a .m) (a .knots .now) (a .xs .now) (a .ys .now) (a .v) (s .pre .0)) (r .ensures .found (not-false (r .result) (c .before .before .before .before .before .before .before .before .before .before .before .before .if1 .left))) (h .ensures .0))
+    (lists (h .last .1 .1 .1 .0) (h .last .1 .1 .1 .1 .0) (h .last .1 .1 .1 .1 .1 .0)) (c .if2 .left) (h .ensures .1)
 
 pub remove-checked-spec : {M : Type 1} → statement M
 remove-checked-spec =

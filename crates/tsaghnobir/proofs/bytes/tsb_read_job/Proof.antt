@@ -1,17 +1,16 @@
--- `tsaghnobir::tsb_read_job` meets its contract: each arm is the answer that the wrapped call gave.
-use mathlib.Core.Path.{refl}
-use borrow.Author.Needs.{needs}
+-- `tsaghnobir::tsb_read_job` meets its contract: each arm knows the number, and the first the degree and the counts.
+use Rattle.tsaghnobir.proofs.ReadingLaws.{job-read, job-refused}
 use Rattle.tsaghnobir.proofs.bytes.tsb_read_job.Statement.{statement}
 use Rattle.tsaghnobir.proofs.bytes.tsb_read_job.Tie as tie
 
 read-job-requires : tie.Need-read-job-requires
-read-job-requires c κs = search needs
+read-job-requires c κs = tt
 
 enum-known-answer : tie.Need-enum-known-answer
-enum-known-answer c = search needs
+enum-known-answer c = c .match .keys1
 
 enum-known-answer-2 : tie.Need-enum-known-answer-2
-enum-known-answer-2 c = search needs
+enum-known-answer-2 c = c .match .keys2
 
 same-length : tie.Need-same-length
 same-length c = c .before .before .before .before .before .before .before .before .read-job .kept .1 .0
@@ -26,10 +25,7 @@ same-length-4 : tie.Need-same-length-4
 same-length-4 c = c .before .before .before .before .before .before .before .before .read-job .kept .1 .1 .1 .1 .0
 
 returns : tie.Need-returns
-returns c =
-    let call = c .before .before .before .before .before .before .before .before .read-job in
-    let arm = c .before .answer .given .1 in
-    record { answer = call .result; read = call .ensures; told = rw arm (refl, refl, refl, refl) }
+returns c = job-read (c .before .before .before .before .before .before .before .before .read-job .ensures) (c .before .answer .given .1)
 
 same-length-5 : tie.Need-same-length-5
 same-length-5 c = c .before .before .before .before .before .before .before .before .read-job .kept .1 .0
@@ -44,10 +40,7 @@ same-length-8 : tie.Need-same-length-8
 same-length-8 c = c .before .before .before .before .before .before .before .before .read-job .kept .1 .1 .1 .1 .0
 
 returns-2 : tie.Need-returns-2
-returns-2 c =
-    let call = c .before .before .before .before .before .before .before .before .read-job in
-    let arm = c .before .answer2 .given .1 in
-    record { answer = call .result; read = call .ensures; told = rw arm (refl, refl, refl, refl) }
+returns-2 c = job-refused (c .before .before .before .before .before .before .before .before .read-job .ensures) (c .before .answer2 .given .1)
 
 pub tsb-read-job-spec : {M : Type 1} → statement M
 tsb-read-job-spec =

@@ -1,19 +1,18 @@
 -- `tsaghnobir::tsb_insert` meets its contract: each arm knows the number, and the first the count.
-use mathlib.Core.Path.{_≡_, ap, sym, _∙_}
-use borrow.Author.Needs.{needs}
+use mathlib.Core.Path.{sym}
 use Rattle.tsaghnobir.proofs.ArmLaws.{done-arm, refused-arm, placed-refused}
 use Rattle.tsaghnobir.proofs.Answers.{insert-variants}
 use Rattle.tsaghnobir.proofs.knots.tsb_insert.Statement.{statement}
 use Rattle.tsaghnobir.proofs.knots.tsb_insert.Tie as tie
 
 insert-knot-requires : tie.Need-insert-knot-requires
-insert-knot-requires c κs = search needs
+insert-knot-requires c κs = tt
 
 enum-known-answer : tie.Need-enum-known-answer
-enum-known-answer c = search needs
+enum-known-answer c = c .match .keys1
 
 enum-known-answer-2 : tie.Need-enum-known-answer-2
-enum-known-answer-2 c = search needs
+enum-known-answer-2 c = c .match .keys2
 
 same-length : tie.Need-same-length
 same-length c = c .before .before .before .before .before .before .before .insert-knot .kept .1 .1 .1 .1 .1 .0
@@ -27,8 +26,8 @@ same-length-3 c = c .before .before .before .before .before .before .before .ins
 returns : tie.Need-returns
 returns c =
     let call = c .before .before .before .before .before .before .before .insert-knot in
-    let d = done-arm insert-variants _ _ (c .before .answer .given .0 .0) (sym (c .before .answer .given .1) ∙ call .ensures .0) in
-    (sym (d .0), (rw (d .0) at (call .ensures .1), d .1))
+    let arm = done-arm insert-variants _ _ (call .ensures .answers) (c .before .answer .given .1) in
+    (sym (arm .0), (rw (arm .0) at (call .ensures .hands), arm .1))
 
 same-length-4 : tie.Need-same-length-4
 same-length-4 c = c .before .before .before .before .before .before .before .insert-knot .kept .1 .1 .1 .1 .1 .0
@@ -42,9 +41,8 @@ same-length-6 c = c .before .before .before .before .before .before .before .ins
 returns-2 : tie.Need-returns-2
 returns-2 c =
     let call = c .before .before .before .before .before .before .before .insert-knot in
-    let n = c .before .answer2 .given .0 .0 in
-    let d = refused-arm insert-variants _ _ n (sym (c .before .answer2 .given .1) ∙ call .ensures .0) in
-    (sym (d .0), (rw (d .0) at (call .ensures .1), placed-refused n _ _ (d .1)))
+    let arm = refused-arm insert-variants _ _ (call .ensures .answers) (c .before .answer2 .given .1) in
+    (sym (arm .0), (rw (arm .0) at (call .ensures .hands), placed-refused _ _ _ (arm .1)))
 
 pub tsb-insert-spec : {M : Type 1} → statement M
 tsb-insert-spec =

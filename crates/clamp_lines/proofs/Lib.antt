@@ -1,0 +1,4 @@
+-- Laws of the lines on a clamp.
+pub mod CountLaws
+pub mod ListedLaws
+pub mod ClampPartLaws

@@ -1,0 +1,2 @@
+-- What the words of the text say of the exact curve.
+pub mod Clear

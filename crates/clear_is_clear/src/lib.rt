@@ -1,0 +1,1 @@
+// Why "clear" is clear. There is nothing here that runs.

@@ -1,0 +1,4 @@
+-- What the contracts of the exports to C settle: the proofs.
+pub mod OutcomeLaws
+pub mod CarryingLaws
+pub mod Controls

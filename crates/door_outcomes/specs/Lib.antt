@@ -1,0 +1,2 @@
+-- What the contracts of the exports to C settle: the statements.
+pub mod Exports

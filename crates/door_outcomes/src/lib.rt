@@ -1,0 +1,1 @@
+// Laws alone: what the contracts of the exports to C settle.

@@ -1,2 +1,0 @@
--- Room, and a copy of a list that fits.
-pub mod RoomLaws

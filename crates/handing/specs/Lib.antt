@@ -1,2 +1,0 @@
--- Handing three lists over into lent ones.
-pub mod Handing

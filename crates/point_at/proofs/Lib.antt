@@ -1,0 +1,3 @@
+-- The sentences about the point call's answer, and points worked by hand.
+pub mod SentenceLaws
+mod Controls

@@ -1,0 +1,2 @@
+-- Laws of writing the spans.
+mod ListingLaws

@@ -1,0 +1,2 @@
+-- The check of the curve that stands in bytes.
+pub mod StoredNumber

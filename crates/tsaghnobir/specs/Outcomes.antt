@@ -1,0 +1,49 @@
+-- What the exports by cases hand back (headings "Inserting and removing a knot", "The record on disk", "Numbers of refusal"). `number` is the answer;
+-- `before` and `now` are the lent lists before the call and after it, `held` and `holds` the single numbers lent with them.
+use mathlib.Core.List.{List}
+use mathlib.Core.Path.{_≡_}
+use Prim.Native.Nat.{ℕ, _-_}
+use lib.IntN.{ℤ}
+use lib.ListN.{length}
+use Rattle.lent.specs.Lent.{after}
+use Rattle.curve.specs.Lists.{Lists}
+use Rattle.curve.specs.HandingOver.{handedOver}
+use Rattle.remove_knot.specs.Outcome.{RemovalComesTo}
+use Rattle.compact.specs.Outcome.{CompactionComesTo}
+use Rattle.clamps.specs.Clamp.{Clamp, allSides}
+use Rattle.record.specs.Reading.{RecordComesTo}
+use Rattle.job.specs.JobReading.{JobComesTo}
+use Rattle.tsaghnobir.specs.Places.{placed}
+
+-- a call comes to the number and to some curve; the lists follow, and the single numbers by `counts` of that curve
+pub record HandsBack {P : Type 0} (ComesTo : ℕ → Lists → Type 0) (counts : Lists → P) (before : Lists) (held : P) (number : ℕ) (now : Lists) (holds : P) : Type 0 where
+  pub result : Lists
+  pub comesTo : ComesTo number result
+  pub hands : now ≡ handedOver number result before
+  pub places : holds ≡ placed number (counts result) held
+
+-- removing v from c: the points that are left
+abbrev pub RemovalHandsBack : ℕ → Lists → ℕ → Lists → ℕ → ℕ → Lists → ℕ → Type 0
+RemovalHandsBack m c v before = HandsBack (RemovalComesTo m c v before) (λ d. length (d .xs)) before
+
+-- compacting c: the points that are left, and how many fewer they are
+abbrev pub CompactionHandsBack : ℕ → Lists → Lists → ℕ × ℕ → ℕ → Lists → ℕ × ℕ → Type 0
+CompactionHandsBack m c before = HandsBack (CompactionComesTo m c before) (λ d. (length (d .xs), length (c .xs) - length (d .xs))) before
+
+-- reading a record: degree and number of points
+pub record RecordHandsBack (bytes : List ℕ) (before : Lists) (held : ℕ × ℕ) (number : ℕ) (now : Lists) (holds : ℕ × ℕ) : Type 0 where
+  pub m : ℕ
+  pub c : Lists
+  pub comesTo : RecordComesTo bytes before number m c
+  pub hands : now ≡ handedOver number c before
+  pub places : holds ≡ placed number (m, length (c .xs)) held
+
+-- reading a job: degree, number of points and number of clamps; the clamps' sides go to a fourth list
+pub record JobHandsBack (bytes : List ℕ) (before : Lists) (sidesBefore : List ℤ) (held : ℕ × ℕ × ℕ) (number : ℕ) (now : Lists) (sidesNow : List ℤ) (holds : ℕ × ℕ × ℕ) : Type 0 where
+  pub m : ℕ
+  pub c : Lists
+  pub cs : List Clamp
+  pub comesTo : JobComesTo bytes before (length sidesBefore) number m c cs
+  pub hands : now ≡ handedOver number c before
+  pub clampsNow : sidesNow ≡ after number (allSides cs) sidesBefore
+  pub places : holds ≡ placed number (m, length (c .xs), length cs) held

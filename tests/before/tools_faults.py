@@ -1,0 +1,105 @@
+"""The tests of tools/ notice faults: each line below changes one thing in a copy, and the named part of a test must then fail."""
+
+import pathlib
+import shutil
+import subprocess
+import sys
+import tempfile
+from concurrent.futures import ThreadPoolExecutor
+
+TOP = pathlib.Path(__file__).resolve().parents[2]
+COPIED = ("tools", "tests", "examples", "README.md", "crates.txt")
+
+# The test and its part, the file of tools/, what stands there, and the fault.
+FAULTS = [
+    ("status programs", "exit_status.py", "answer.MAY_MEET: 11", "answer.MAY_MEET: 10"),
+    ("status programs", "exit_status.py", "    found = answer.read_answer(printed, data)\n    pass_on(printed)\n",
+     "    pass_on(printed)\n    found = answer.read_answer(printed, data)\n"),
+    ("status programs", "program.py", "if ended.returncode:", "if False:"),
+    ("status programs", "answer.py", "    if fault:\n", "    if False:\n"),
+    ("status programs", "exit_status.py", "if found.refusal:", "if False:"),
+    ("status surroundings", "clampcheck", "*) exit 3", "*) exit 0"),
+    ("status surroundings", "clampcheck", "readlink -f", "printf %s"),
+    ("status surroundings", "exit_status.py", "text = text[os.write(1, text) :]", "text = print(text)"),
+    ("status surroundings", "program.py", "data.read(job_bytes.MOST_BYTES + 1)", "data.read()"),
+    ("status texts", "answer.py", "if lines[0] != head:", "if False:"),
+    ("status texts", "answer.py", "if lines != [line for part in parts.values() for line in part]:", "if False:"),
+    ("status texts", "answer.py", "if not printed.endswith(b\"\\n\") or not printed.isascii():", "if not printed.isascii():"),
+    ("status texts", "answer.py", "if listed != [name for name in spans if name in named]:", "if not named <= set(spans):"),
+    ("status texts", "answer.py", "return [spans[name] for name in listed]", "return []"),
+    ("try look", "prove_and_run.py", "        data = look(name)\n        prove()\n", "        prove()\n        data = look(name)\n"),
+    ("try look", "prove_and_run.py", "shlex.quote(name)", "name"),
+    ("try prove", "prove_and_run.py", "if rt.returncode:", "if False:"),
+    ("try prove", "prove_and_run.py", "waiting += listed[crate]", "waiting += []"),
+    ("try at_once", "prove_and_run.py", "for line in rt.stdout:", "for line in rt.stdout.readlines():"),
+    ("try refusal", "prove_and_run.py", "refusals.told(found.refusal, data) if found.refusal else ", ""),
+    ("round_trip", "job_bytes.py", "if len(clamps) == MOST[\"clamps\"]:", "if False:"),
+    ("round_trip", "job_bytes.py", "[point[axis] for point in job.points]", "[point[0] for point in job.points]"),
+    ("round_trip", "drawing/picture.py", "stroke=INK, stroke_width=2.5)", "stroke=INK, stroke_width=2)"),
+    ("messages messages", "description.py", "int(digits) if len(digits) <= 10 else 2**40", "int(digits)"),
+    ("messages messages", "description.py", "hundredths.ljust(2, \"0\")", "hundredths"),
+    ("messages messages", "description.py", "text), 1):", "text), 0):"),
+    ("messages messages", "text_kind.py", "    if half_zero(data):\n", "    if False:\n"),
+    ("messages messages", "refusals.py", "KNOT_MOST = 16383", "KNOT_MOST = 16384"),
+    ("messages judged", "refusals.py", "most = m + 1 if end else m", "most = m + 1"),
+    ("messages judged", "refusals.py", "(clamp[:2], clamp[2:])", "(clamp[:2], clamp[:2])"),
+    ("messages judged", "refusals.py", "return str(bad) if number in (2, 16) else \"\"", "return \"\""),
+    ("messages readme", "refusals.py", "the degree is not 1, 2 or 3", "the degree is wrong"),
+    ("messages nonsense", "description.py", "except UnicodeDecodeError as fault:", "except KeyError as fault:"),
+    ("messages commands", "job.py", "if wrong and not anyway:", "if False:"),
+    ("messages commands", "job.py", "os.path.exists(target) and os.path.samefile(source, target)", "source == target"),
+    ("messages commands", "job.py", "data.read(MOST_READ + 1)", "data.read()"),
+    ("picture shapes", "shape.py", "HALVINGS = 40", "HALVINGS = 1"),
+    ("picture shapes", "shape.py", "            return True\n", "            return False\n"),
+    ("picture shapes", "shape.py", "[low] * (m - k) + [high] * k", "[low] * k + [high] * (m - k)"),
+    ("picture sign", "drawing/naming.py", "found.append((span[1], ", "found.append((span[2], "),
+    ("picture sign", "drawing/picture.py", "BOXED: \"url(#striped)\"", "BOXED: \"url(#crossed)\""),
+    ("picture sign", "drawing/words.py", "stays out (seen here, not proved)", "stays out"),
+    ("picture sign", "drawing/legend.py", "wide = steps * view.scale", "wide = steps * view.scale * 1.1"),
+    ("picture sign", "drawing/words.py", " and shape.enters(pieces[span], clamp)", ""),
+    ("picture commands", "drawing/words.py", "if not set(entered) <= set(spans):", "if False:"),
+    ("picture crowded", "drawing/labels.py", "if any(overlap(box, kept) for kept in self.kept):", "if False:"),
+    ("picture crowded", "drawing/naming.py", "(self.labels.big if big else self.labels.kept)", "self.labels.big"),
+    ("picture crowded", "drawing/naming.py", "listing(places[home, kind])", "str(places[home, kind][0])"),
+    ("picture far", "drawing/view.py", "REACH = 0.6", "REACH = 60"),
+    ("picture far", "drawing/view.py", "millimetres = steps / 100", "millimetres = steps / 10"),
+    ("picture far", "drawing/naming.py", "for k in self.picture.view.far:", "for k in ():"),
+    ("picture far", "drawing/view.py", "min(right + thin, self.right)", "right + thin"),
+    ("picture long_curve", "drawing/naming.py", "bounds |= lows | highs if len(spans) <= MOST_BOUNDS else lows ^ highs", "pass"),
+    ("picture odd", "drawing/view.py", "LEAST_SHOWN = 8", "LEAST_SHOWN = 0.5"),
+    ("picture refused", "draw.py", "draw_refusal(found.refusal, data) if found.refusal else ", ""),
+    ("picture commands", "drawing/sheet.py", "escape(title)]", "escape(title) + str(hash(title))]"),
+    ("picture commands", "draw.py", "if os.path.exists(target) and any(", "if False and any("),
+]
+
+
+def noticed(fault):
+    """Whether the test fails in a copy with the fault; the fault must find its place once."""
+    test, name, old, new = fault
+    with tempfile.TemporaryDirectory() as folder:
+        for copied in COPIED:
+            place = pathlib.Path(folder, copied)
+            if (TOP / copied).is_dir():
+                shutil.copytree(TOP / copied, place, ignore=shutil.ignore_patterns("__pycache__"))
+            else:
+                shutil.copy(TOP / copied, place)
+        path = pathlib.Path(folder, "tools", name)
+        text = path.read_text()
+        assert text.count(old) == 1, "tools/%s has %d places for %r" % (name, text.count(old), old)
+        path.write_text(text.replace(old, new))
+        file, *parts = test.split()
+        words = [sys.executable, "-B", pathlib.Path(folder, "tests", "before", "tools_%s.py" % file), *parts]
+        return subprocess.run(words, capture_output=True, timeout=120).returncode != 0
+
+
+def main():
+    with ThreadPoolExecutor(3) as pool:
+        answers = list(pool.map(noticed, FAULTS))
+    missed = [fault for fault, seen in zip(FAULTS, answers) if not seen]
+    for test, name, _, new in missed:
+        print("tools_%s does not notice %r in tools/%s" % (test, new, name))
+    print("%d faults in tools/, %d not noticed" % (len(FAULTS), len(missed)))
+    sys.exit(bool(missed))
+
+
+main()

@@ -1,0 +1,134 @@
+"""tools/clampcheck with pretended programs: nothing but the one all-clear text of a job gives 0, and what is no answer gives 3."""
+
+import pathlib
+import sys
+
+sys.dont_write_bytecode = True
+sys.path[:0] = [str(pathlib.Path(__file__).resolve().parents[1])]
+
+from pretended import TOP, in_folder, run_parts  # noqa: E402
+import answer  # noqa: E402
+import exit_status  # noqa: E402
+from job_bytes import Job, read_job, write_job  # noqa: E402
+
+SIGN = (TOP / "examples" / "sign.job").read_bytes()
+CLEAR = write_job(Job(3, [0, 0, 0, 0, 4, 4, 4, 4], [(0, 0), (0, 8), (8, 8), (8, 0)], [(9, 12, 0, 4), (0, 8, 9, 10)]))
+TURNED = write_job(Job(3, [0, 0, 0, 0, 4, 4, 4, 4], [(0, 0), (0, 8), (8, 8), (8, 0)], [(9, 12, 0, 4), (8, 0, 9, 10)]))
+CLEAR_TEXT = b"curve degree 3 points 4 spans 1\nclamp 1 clear\nclamp 2 clear\n"
+MET_TEXT = b"curve degree 3 points 4 spans 1\nclamp 1 may meet 0..4\nclamp 2 clear\n"
+BARE = write_job(Job(1, [0, 0, 1, 1], [(0, 0), (5, 5)], []))
+BARE_TEXT = b"curve degree 1 points 2 spans 1\n"
+
+
+def prints(text):
+    """Shell that prints a text."""
+    return "printf '%s'" % text.decode().replace("\n", "\\n")
+
+
+# What the program does, the job, and the status that is right.
+PRETENDED = [
+    (prints(CLEAR_TEXT), CLEAR, 0),
+    (prints(BARE_TEXT), BARE, 0),
+    (prints(MET_TEXT), CLEAR, 1),
+    ("printf 'refused 14\\n'", CLEAR, 2),
+    ("printf 'refused 8\\n'", CLEAR, 3),
+    ("printf 'refused 14\\nrefused 14\\n'", CLEAR, 3),
+    ("true", CLEAR, 3),
+    ("printf 'curve degree 3 points 4 sp'", CLEAR, 3),
+    ("printf 'curve degree 3 points 4 spans 1\\nclamp 1 clear\\nclamp 2 cle'", CLEAR, 3),
+    ("printf 'curve degree 3 points 4 spans 1\\nclamp 1 clear\\n'", CLEAR, 3),
+    (prints(CLEAR_TEXT) + "; exit 1", CLEAR, 3),
+    (prints(CLEAR_TEXT) + "; kill -9 $$", CLEAR, 3),
+    ("printf 'curve \\377\\n'", CLEAR, 3),
+    (prints(CLEAR_TEXT), CLEAR[:-1], 3),
+    (prints(CLEAR_TEXT), TURNED, 3),
+]
+
+
+def word(printed, job):
+    """What a text says of a job, None where it is not understood."""
+    try:
+        return answer.read_answer(printed, job).word()
+    except answer.NotUnderstood:
+        return None
+
+
+def changed(text):
+    """Every text that one byte more, less or other makes, every front and every order of two lines."""
+    for at in range(len(text) + 1):
+        yield text[:at]
+        yield text[:at] + text[at + 1 :]
+        for byte in b"0129 \nacr.\x00\xff":
+            yield text[:at] + bytes([byte]) + text[at:]
+            yield text[:at] + bytes([byte]) + text[at + 1 :]
+    lines = text.splitlines(True)
+    for a in range(len(lines)):
+        for b in range(len(lines)):
+            swapped = list(lines)
+            swapped[a], swapped[b] = lines[b], lines[a]
+            yield b"".join(swapped)
+            yield b"".join(lines[:a] + lines[b:])
+
+
+def texts():
+    """In one process: whatever is changed in an all-clear text, it says all clear no more."""
+    for job, text in ((CLEAR, CLEAR_TEXT), (BARE, BARE_TEXT)):
+        assert word(text, job) == answer.ALL_CLEAR, "the all-clear text is not understood"
+        for other in changed(text):
+            assert other == text or word(other, job) != answer.ALL_CLEAR, "%r counts as all clear" % other
+    assert word(MET_TEXT, CLEAR) == answer.MAY_MEET
+    for text in (CLEAR_TEXT, MET_TEXT, BARE_TEXT):
+        assert word(text, SIGN) is None, "the text of another job is understood"
+    for text in (b"clamp 2 may meet 20..30\nclamp 2 may meet 10..20\n", b"clamp 2 may meet 10..30\n", b"clamp 2 may meet 10..20\n" * 2):
+        job = read_job(SIGN)
+        whole = b"curve degree 3 points 12 spans 9\nclamp 1 clear\n" + text + b"clamp 3 clear\nclamp 4 clear\nclamp 5 clear\n"
+        assert len(job.clamps) == 5 and word(whole, SIGN) is None, "%r is understood" % text
+    assert sorted(exit_status.ENDS.values()) == [10, 11, 12]
+
+
+@in_folder
+def programs(folder):
+    """As a process: the status, and that a text which is no answer is not passed on."""
+    for text, job, right in PRETENDED:
+        folder.pretend_program("cat >/dev/null; " + text)
+        ended = folder.run("tools/clampcheck", given=job)
+        assert ended.returncode == right, "%s: status %d and not %d; %r" % (text, ended.returncode, right, ended.stderr)
+        assert bool(ended.stdout) == (right != 3), "%s: printed %r" % (text, ended.stdout)
+        assert bool(ended.stderr) == (right > 1), "%s: said %r" % (text, ended.stderr)
+        assert b"Traceback" not in ended.stderr, ended.stderr.decode()
+
+
+@in_folder
+def surroundings(folder):
+    """No file, no output, no kit, no program, no Python: 3."""
+    folder.pretend_program("cat >/dev/null; " + prints(CLEAR_TEXT))
+    clear = folder.top / "clear.job"
+    clear.write_bytes(CLEAR)
+    assert folder.run("tools/clampcheck", clear).returncode == 0, "a file is not read"
+    link = folder.top / "link"
+    link.symlink_to(folder.top / "tools" / "clampcheck")
+    assert folder.run(link, clear).returncode == 0, "it does not run by way of a link"
+    for words, said in (
+        (("tools/clampcheck", "none.job"), b"none.job: No such file"),
+        (("tools/clampcheck", "tools"), b"tools: Is a directory"),
+        (("tools/clampcheck", clear, clear), b"Give a job"),
+        (("sh", "-c", "tools/clampcheck clear.job >/dev/full"), b"No space left"),
+        (("sh", "-c", "tools/clampcheck clear.job >&-"), b"Bad file descriptor"),
+        (("sh", "-c", "tools/clampcheck <&-"), b"Bad file descriptor"),
+    ):
+        ended = folder.run(*words)
+        assert ended.returncode == 3 and said in ended.stderr, "%s: %d %r" % (words, ended.returncode, ended.stderr)
+    endless = folder.run("sh", "-c", "ulimit -v 1000000; tools/clampcheck /dev/zero")
+    assert endless.returncode == 3 and b"MemoryError" not in endless.stderr, "a file without end is read on and on"
+    folder.built().unlink()
+    ended = folder.run("tools/clampcheck", clear)
+    assert ended.returncode == 3 and b"tools/try.sh proves and builds it" in ended.stderr, "no program: %r" % ended.stderr
+    folder.built().write_bytes(b"")
+    (folder.kit / "bin" / "rt").unlink()
+    ended = folder.run("tools/clampcheck", clear)
+    assert ended.returncode == 3 and b"not on the PATH" in ended.stderr, "no kit: %r" % ended.stderr
+    (folder.commands / "python3").unlink()
+    assert folder.run("tools/clampcheck", clear).returncode == 3, "no Python"
+
+
+run_parts("tools/clampcheck: changed texts, %d pretended programs, 10 surroundings" % len(PRETENDED), texts, programs, surroundings)

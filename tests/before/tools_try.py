@@ -1,0 +1,99 @@
+"""tools/try.sh with a pretended kit: the job is looked at before any proof, crates are told as they come, refusals in words."""
+
+import pathlib
+import subprocess
+import sys
+
+sys.dont_write_bytecode = True
+sys.path[:0] = [str(pathlib.Path(__file__).resolve().parents[1])]
+
+from pretended import TOP, in_folder, run_parts  # noqa: E402
+
+CRATES = "# what is listed\nrefusal:\ngrid: refusal\nother: grid\nclampcheck: io grid refusal\n"
+PROVES = "printf 'rt: refusal proved (unchanged since it was last proved)\\nlogic=proved\\nrt: grid proved (9 s)\\nrt: ok\\n'"
+WAITS = "printf 'rt: refusal proved (1 s)\\n'; n=0; while [ ! -e go ]; do n=$((n+1)); [ $n -lt 200 ] || exit 1; sleep 0.05; done"
+ADVICE = "    python3 tools/job.py make 'my sign.txt' 'my sign.job'\n    tools/try.sh 'my sign.job'\n"
+SAMPLE = (TOP / "examples" / "sign.job").read_bytes()
+SAMPLE_TEXT = b"""curve degree 3 points 12 spans 9
+clamp 1 clear
+clamp 2 may meet 10..20
+clamp 2 may meet 20..30
+clamp 2 may meet 30..40
+clamp 2 may meet 40..50
+clamp 3 may meet 10..20
+clamp 4 clear
+clamp 5 may meet 80..90
+"""
+
+
+@in_folder
+def look(folder):
+    """What is no job at a glance is told of in words, and `rt` is not started."""
+    folder.pretend_kit("printf started >started; exit 1")
+    (folder.top / "empty.job").write_bytes(b"")
+    (folder.top / "my sign.txt").write_text("degree 1\n")
+    (folder.top / "wide.txt").write_bytes("degree 1\n".encode("utf-16"))
+    for name, words in (
+        ("none.job", "none.job: No such file or directory"),
+        ("tools", "tools: Is a directory"),
+        ("empty.job", "empty.job is empty. A job is made of a description such as examples/sign.txt: python3 tools/job.py make"),
+        ("my sign.txt", "my sign.txt is UTF-8 text, not a job. Make a job of it, and try that:\n" + ADVICE),
+        ("wide.txt", "wide.txt is UTF-16 text, not a job. Make a job of it"),
+    ):
+        ended = folder.run("tools/try.sh", name)
+        assert (ended.returncode, ended.stdout) == (3, b"") and words in ended.stderr.decode(), "%s: %r" % (name, ended)
+        assert not (folder.top / "started").exists(), "%s: a proof was started" % name
+    assert folder.run("tools/try.sh", "a", "b").returncode == 3
+
+
+@in_folder
+def prove(folder):
+    """A line for each crate; a failure shows what `rt` printed last, and no answer."""
+    folder.pretend_program("cat >/dev/null; cat sign.out")
+    (folder.top / "sign.out").write_bytes(SAMPLE_TEXT)
+    (folder.top / "crates.txt").write_text(CRATES)
+    folder.pretend_kit(PROVES)
+    ended = folder.run("tools/try.sh")
+    lines = ended.stderr.decode().splitlines()
+    assert (ended.returncode, ended.stdout) == (0, SAMPLE_TEXT), ended
+    assert lines[1:] == ["proved refusal (1 of 3)", "proved grid (2 of 3)", "clampcheck < examples/sign.job"], lines
+    folder.pretend_kit(PROVES + "; printf 'error: a fact fails\\n' >&2; exit 1")
+    ended = folder.run("tools/try.sh")
+    assert (ended.returncode, ended.stdout) == (3, b""), "an answer without a proof"
+    assert b"error: a fact fails\nclampcheck is not proved: rt check ended with status 1.\n" in ended.stderr, ended.stderr
+    (folder.kit / "bin" / "rt").unlink()
+    ended = folder.run("tools/try.sh")
+    assert ended.returncode == 3 and b"The Rattle kit (rt) is not on the PATH." in ended.stderr
+
+
+@in_folder
+def at_once(folder):
+    """The first crate is told of while the second is still being proved."""
+    folder.pretend_program("cat >/dev/null; cat sign.out")
+    (folder.top / "sign.out").write_bytes(SAMPLE_TEXT)
+    (folder.top / "crates.txt").write_text(CRATES)
+    folder.pretend_kit(WAITS)
+    surroundings = {"PATH": "%s:%s" % (folder.commands, folder.kit / "bin")}
+    with subprocess.Popen(["tools/try.sh"], cwd=folder.top, env=surroundings, stdout=subprocess.PIPE, stderr=subprocess.PIPE) as child:
+        seen = [child.stderr.readline(), child.stderr.readline()]
+        (folder.top / "go").write_text("")
+        child.stderr.read()
+    assert seen[1] == b"proved refusal (1 of 3)\n" and child.returncode == 0, "the crates are told of only at the end: %r" % seen
+
+
+@in_folder
+def refusal(folder):
+    """A refusal is told in words, with what is wrong in the job."""
+    folder.pretend_program("cat >/dev/null; printf 'refused 16\\n'")
+    folder.pretend_kit(PROVES)
+    (folder.top / "cut.job").write_bytes(SAMPLE[:-1])
+    ended = folder.run("tools/try.sh", "cut.job")
+    words = "refused 16: the file is no job: cut short, too long, or something else\nbyte %d: the job ends inside a field\n"
+    assert (ended.returncode, ended.stdout.decode()) == (2, words % (len(SAMPLE) - 1)), ended
+    folder.pretend_program("cat >/dev/null; printf 'curve degr'")
+    folder.pretend_kit(PROVES)
+    ended = folder.run("tools/try.sh")
+    assert (ended.returncode, ended.stdout) == (3, b"") and b"cut off" in ended.stderr, ended
+
+
+run_parts("tools/try.sh: 6 jobs looked at, 4 proofs, 2 refusals", look, prove, at_once, refusal)

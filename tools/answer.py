@@ -1,0 +1,81 @@
+"""What clampcheck printed, held against the job that it was given: every line must be one that it can print on that job."""
+
+import refusals
+import shape
+from job_bytes import BadJob, read_job
+
+ALL_CLEAR, MAY_MEET, REFUSED = "all clear", "may meet", "refused"
+
+
+class NotUnderstood(Exception):
+    """This is not what clampcheck prints on the job; the message says why."""
+
+
+class Answer:
+    """The number of a refusal (0 for none), the job (None where refused), and for each clamp the listed spans."""
+
+    def __init__(self, refusal, job=None, listed=()):
+        self.refusal, self.job, self.listed = refusal, job, list(listed)
+
+    def word(self):
+        if self.refusal:
+            return REFUSED
+        return MAY_MEET if any(self.listed) else ALL_CLEAR
+
+
+def sound_job(data):
+    """The job, where clampcheck has to take it."""
+    try:
+        job = read_job(data)
+    except BadJob as fault:
+        raise NotUnderstood("clampcheck took a job that it has to refuse: %s" % fault) from None
+    fault = refusals.fault_of(job)
+    if fault:
+        raise NotUnderstood("clampcheck took a job that it has to refuse with %d: %s" % (fault.number, fault.words))
+    return job
+
+
+def spans_of_clamp(number, lines, spans):
+    """The lines on one clamp: its listed spans, none where it is clear. The spans are given by name, in their order."""
+    if lines == ["clamp %d clear" % number]:
+        return []
+    front = "clamp %d may meet " % number
+    listed = [line[len(front) :] for line in lines if line.startswith(front)]
+    if not listed or len(listed) < len(lines):
+        raise NotUnderstood("clamp %d is not told as it should be: %r" % (number, lines[:2]))
+    named = set(listed)
+    if listed != [name for name in spans if name in named]:
+        raise NotUnderstood("clamp %d: these are no spans of the curve, or not in their order: %r" % (number, listed[:2]))
+    return [spans[name] for name in listed]
+
+
+def lines_by_clamp(lines, clamps):
+    """The lines on each clamp, which stand in the order of the clamps and leave nothing over."""
+    parts = {str(number): [] for number in range(1, clamps + 1)}
+    for line in lines:
+        words = line.split(" ")
+        if len(words) < 3 or words[0] != "clamp" or words[1] not in parts:
+            raise NotUnderstood("this is no line on one of %d clamps: %r" % (clamps, line[:60]))
+        parts[words[1]].append(line)
+    if lines != [line for part in parts.values() for line in part]:
+        raise NotUnderstood("the clamps are not in their order")
+    return list(parts.values())
+
+
+def read_answer(printed, data):
+    """The answer in the bytes that clampcheck printed on a job's bytes, or NotUnderstood."""
+    for number in refusals.WORDS:
+        if printed == b"refused %d\n" % number:
+            return Answer(number)
+    if not printed.endswith(b"\n") or not printed.isascii():
+        raise NotUnderstood("what clampcheck printed is cut off or no text: %r" % printed[-60:])
+    lines = printed.decode("ascii").split("\n")[:-1]
+    if not lines[0].startswith("curve "):
+        raise NotUnderstood("this is no line on a curve: %r" % lines[0][:60])
+    job = sound_job(data)
+    spans = {"%d..%d" % span[1:]: span for span in shape.spans(job)}
+    head = "curve degree %d points %d spans %d" % (job.degree, len(job.points), len(spans))
+    if lines[0] != head:
+        raise NotUnderstood("the line on the curve is %r and not %r" % (lines[0][:60], head))
+    parts = lines_by_clamp(lines[1:], len(job.clamps))
+    return Answer(0, job, [spans_of_clamp(number, part, spans) for number, part in enumerate(parts, 1)])

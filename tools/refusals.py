@@ -1,0 +1,122 @@
+"""The refusals that a job can meet, in words, and which of them a curve and its clamps meet first, and where.
+
+Clampcheck judges; this says the same of a description before there is a job, and says of a refused job what is wrong in it.
+"""
+
+from collections import namedtuple
+
+import job_bytes
+import text_kind
+
+KNOT_MOST = 16383
+FARTHEST = 262144
+WORDS = {
+    1: "the degree is not 1, 2 or 3",
+    2: "there are too few points for the degree, or not as many x as y",
+    3: "the number of knots does not go with points and degree",
+    4: "a knot is above 16,383, or below the one before it",
+    5: "the first degree + 1 knots are not equal, or the last are not, or the first knot equals the last",
+    6: "a knot value stands too often: at an end more than degree + 1 times, inside more than degree times",
+    7: "a coordinate lies beyond 262,144 hundredths of a millimetre, about 2.6 metres, from the middle",
+    14: "a clamp's sides are crossed, low above high, or one of them lies beyond 262,144",
+    16: "the file is no job: cut short, too long, or something else",
+}
+
+# The number of a refusal, what is wrong, and the word and place (from 0) of the line that it concerns, or None.
+Fault = namedtuple("Fault", "number words line")
+
+
+def counts_fault(job):
+    """Rows 1 to 3."""
+    m, points, knots = job.degree, len(job.points), len(job.knots)
+    if m not in (1, 2, 3):
+        return Fault(1, "degree %d is none of 1, 2, 3" % m, ("degree", 0))
+    if points < m + 1:
+        return Fault(2, "degree %d takes %d points or more, and here are %d" % (m, m + 1, points), None)
+    if knots != points + m + 1:
+        return Fault(3, "%d points of degree %d take %d knots, and here are %d" % (points, m, points + m + 1, knots), None)
+    return None
+
+
+def falling_fault(job):
+    """Row 4."""
+    for k, knot in enumerate(job.knots):
+        if knot > KNOT_MOST:
+            return Fault(4, "knot %d is %d; a knot is 0 to %s" % (k + 1, knot, format(KNOT_MOST, ",")), ("knots", k))
+        if k and knot < job.knots[k - 1]:
+            return Fault(4, "knot %d is %d, below the %d before it; knots never fall" % (k + 1, knot, job.knots[k - 1]), ("knots", k))
+    return None
+
+
+def ends_fault(job):
+    """Row 5."""
+    m, ts = job.degree, job.knots
+    for name, end, places in (("first", 0, range(m + 1)), ("last", len(ts) - 1, range(len(ts) - m - 1, len(ts)))):
+        for k in places:
+            if ts[k] != ts[end]:
+                words = "the %s %d knots are equal in a curve of degree %d, and knot %d is %d, not %d"
+                return Fault(5, words % (name, m + 1, m, k + 1, ts[k], ts[end]), ("knots", k))
+    if ts[0] == ts[-1]:
+        return Fault(5, "the first knot and the last are both %d; the curve has no length" % ts[0], ("knots", len(ts) - 1))
+    return None
+
+
+def repeats_fault(job):
+    """Row 6, where rows 4 and 5 have passed."""
+    m, ts = job.degree, job.knots
+    for k in range(len(ts)):
+        end = ts[k] in (ts[0], ts[-1])
+        most = m + 1 if end else m
+        if k >= most and ts[k - most] == ts[k]:
+            words = "the knot value %d stands more than %d times, the most %s a curve of degree %d"
+            return Fault(6, words % (ts[k], most, "at an end of" if end else "inside", m), ("knots", k))
+    return None
+
+
+def range_fault(job):
+    """Row 7."""
+    for k, point in enumerate(job.points):
+        for name, number in zip("xy", point):
+            if abs(number) > FARTHEST:
+                words = "point %d has %s %d; a coordinate is -%s to %s"
+                return Fault(7, words % (k + 1, name, number, *[format(FARTHEST, ",")] * 2), ("point", k))
+    return None
+
+
+def clamps_fault(job):
+    """Row 14."""
+    for k, clamp in enumerate(job.clamps):
+        for axis, (low, high) in zip("xy", (clamp[:2], clamp[2:])):
+            if low > high:
+                return Fault(14, "clamp %d has its low %s, %d, above its high %s, %d" % (k + 1, axis, low, axis, high), ("clamp", k))
+            for side in (low, high):
+                if abs(side) > FARTHEST:
+                    words = "clamp %d has a side at %s %d; a side is -%s to %s"
+                    return Fault(14, words % (k + 1, axis, side, *[format(FARTHEST, ",")] * 2), ("clamp", k))
+    return None
+
+
+def fault_of(job):
+    """The first fault in the order of judging, or None where clampcheck takes the job."""
+    for judge in (counts_fault, falling_fault, ends_fault, repeats_fault, range_fault, clamps_fault):
+        fault = judge(job)
+        if fault:
+            return fault
+    return None
+
+
+def particulars(number, data):
+    """What is wrong in these bytes, as far as it can be said, for the refusal that clampcheck gave."""
+    if number == 16 and text_kind.is_text(data):
+        return "this is %s; python3 tools/job.py make turns a description into a job" % text_kind.kind(data)
+    try:
+        fault = fault_of(job_bytes.read_job(data))
+    except job_bytes.BadJob as bad:
+        return str(bad) if number in (2, 16) else ""
+    return fault.words if fault and fault.number == number else ""
+
+
+def told(number, data):
+    """Lines that say a refusal: what the number means, and what is wrong in these bytes."""
+    more = particulars(number, data)
+    return ["refused %d: %s" % (number, WORDS[number])] + ([more] if more else [])
