@@ -7,7 +7,7 @@ use Rattle.algebra.specs.Operations.{div}
 use Rattle.algebra.specs.OrderedField.{OrderedField}
 use Rattle.algebra.specs.Ring.{Ring, fieldRing}
 use Rattle.algebra.proofs.RingLaws as Law
-use Rattle.algebra.proofs.Expressions.{var, lit, _⊗_, _⊖_, minus}
+use Rattle.algebra.proofs.Expressions.{var, lit, _⊗_, _⊖_}
 use Rattle.algebra.proofs.Solver.{linear-combination, fact}
 
 module _ (F : OrderedField) where
@@ -60,12 +60,6 @@ module _ (F : OrderedField) where
       go : Dec (a ≡ 𝟎) → P a
       go (yes h) = subst P (sym h) z
       go (no g) = f g
-
-  -- a product is zero exactly when a factor is
-  pub mul-apart : (a b : A) → (a ≡ 𝟎 → ⊥) → (b ≡ 𝟎 → ⊥) → a * b ≡ 𝟎 → ⊥
-  mul-apart a b h k z =
-      k (linear-combination R (a ∷ b ∷ inv a ∷ []) (var 1) (lit 0)
-      (fact (var 2) (var 0 ⊗ var 1) (lit 0) ∷ fact (minus (var 1)) (var 0 ⊗ var 2) (lit 1) ∷ []) (z, (F .laws .mul-inv a h, tt)) refl)
 
   pub mul-cancel-right : (a b c : A) → (c ≡ 𝟎 → ⊥) → a * c ≡ b * c → a ≡ b
   mul-cancel-right a b c h e =

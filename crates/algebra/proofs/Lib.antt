@@ -5,5 +5,4 @@ pub mod Solver
 pub mod IntegerRing
 pub mod FieldLaws
 pub mod OrderLaws
-pub mod QuotientOrder
 pub mod Controls

@@ -1,16 +1,16 @@
 -- Laws of the order of an ordered field: a ≤ b is `AtMost F a b` (b - a passes the test), a < b is `Below F a b` (a - b
--- fails it), "positive" is `Below F zero a`. The order's own laws first, then sums, products, squares.
+-- fails it), "positive" is `Below F zero a`. The order's own laws first, then squares, quotients and means.
 use mathlib.Core.Path.{_≡_, refl, sym, _∙_, ap, subst}
 use mathlib.Core.Logic.{_⊎_, inl, inr}
 use mathlib.Core.Bool.{Bool, true, false, true≢false}
 use mathlib.Core.List.{[], _∷_}
-use Rattle.algebra.specs.Operations.{sub}
-use Rattle.algebra.specs.OrderedField.{OrderedField, AtMost, Below}
+use Rattle.algebra.specs.Operations.{sub, div}
+use Rattle.algebra.specs.OrderedField.{OrderedField, AtMost, Below, Side, low, high, Bounds}
 use Rattle.algebra.specs.Ring.{Ring, fieldRing}
 use Rattle.algebra.proofs.RingLaws as Law
 use Rattle.algebra.proofs.Expressions.{var, lit, _⊕_, _⊗_, _⊖_, minus}
-use Rattle.algebra.proofs.Solver.{ring}
-use Rattle.algebra.proofs.FieldLaws.{nonneg-zero}
+use Rattle.algebra.proofs.Solver.{ring, linear-combination, fact}
+use Rattle.algebra.proofs.FieldLaws.{nonneg-zero, by-zero}
 
 module _ (F : OrderedField) where
   infixl 6 _+_ _-_
@@ -39,6 +39,9 @@ module _ (F : OrderedField) where
 
   abbrev neg : A → A
   neg a = F .operations .neg a
+
+  abbrev inv : A → A
+  inv a = F .operations .inv a
 
   abbrev _≤_ : A → A → Type 0
   a ≤ b = AtMost F a b
@@ -95,23 +98,11 @@ module _ (F : OrderedField) where
   pub atMost-below-trans : (a b c : A) → a ≤ b → b < c → a < c
   atMost-below-trans a b c h k = below-of-not-atMost a c (λ l. not-atMost-of-below b c k (atMost-trans c a b l h))
 
-  -- the test of a number, of a difference and of a negation
-  sub-zero : (a : A) → a - 𝟎 ≡ a
-  sub-zero a = ring R (a ∷ []) (var 0 ⊖ lit 0) (var 0) refl
-
   pub apart-of-positive : (a : A) → 𝟎 < a → a ≡ 𝟎 → ⊥
   apart-of-positive a h e = apart-of-below 𝟎 a h (sym e)
 
   pub positive-of-below : (a b : A) → a < b → 𝟎 < b - a
   positive-of-below a b h = sign-equal (a - b) (𝟎 - (b - a)) false (ring R (a ∷ b ∷ []) (var 0 ⊖ var 1) (lit 0 ⊖ (var 1 ⊖ var 0)) refl) h
-
-  -- a difference is not changed by a number that is added on both sides
-  shift : (a b c : A) → b - a ≡ b + c - (a + c)
-  shift a b c = ring R (a ∷ b ∷ c ∷ []) (var 1 ⊖ var 0) (var 1 ⊕ var 2 ⊖ (var 0 ⊕ var 2)) refl
-
-  -- products
-  difference-mul : (a b c : A) → (b - a) * c ≡ b * c - a * c
-  difference-mul a b c = ring R (a ∷ b ∷ c ∷ []) ((var 1 ⊖ var 0) ⊗ var 2) (var 1 ⊗ var 2 ⊖ var 0 ⊗ var 2) refl
 
   -- squares
   pub square-nonneg : (a : A) → F .nonneg (a * a) ≡ true
@@ -125,3 +116,28 @@ module _ (F : OrderedField) where
 
   pub nonneg-one : F .nonneg 𝟏 ≡ true
   nonneg-one = sign-equal (𝟏 * 𝟏) 𝟏 true (F .laws .mul-one 𝟏) (square-nonneg 𝟏)
+
+  -- quotients and weighted means
+  -- 1/a is a times the square of 1/a, at zero too; so it has the sign of a
+  pub inv-nonneg : (a : A) → F .nonneg a ≡ true → F .nonneg (inv a) ≡ true
+  inv-nonneg a h =
+      sign-equal (a * (inv a * inv a)) (inv a) true
+      (by-zero F (λ x. x * (inv x * inv x) ≡ inv x) a (Law.zero-mul R (inv 𝟎 * inv 𝟎) ∙ sym (F .laws .inv-zero))
+      (λ f. linear-combination R (a ∷ inv a ∷ []) (var 0 ⊗ (var 1 ⊗ var 1)) (var 1) (fact (var 1) (var 0 ⊗ var 1) (lit 1) ∷ []) (F .laws .mul-inv a f, tt) refl))
+      (F .laws .nonneg-mul a (inv a * inv a) h (square-nonneg (inv a)))
+
+  pub div-nonneg : (a b : A) → F .nonneg a ≡ true → F .nonneg b ≡ true → F .nonneg (div (F .operations) a b) ≡ true
+  div-nonneg a b h k = F .laws .nonneg-mul a (inv b) h (inv-nonneg b k)
+
+  -- a mean with weights a and b that are not below zero and add up to one keeps every bound of the two numbers
+  pub mean-bounded : (side : Side) (v x y a b : A) → F .nonneg a ≡ true → F .nonneg b ≡ true → a + b ≡ 𝟏 → Bounds F side v x → Bounds F side v y → Bounds F side v (a * x + b * y)
+  mean-bounded low v x y a b p q e h k =
+      sign-equal (a * (x - v) + b * (y - v)) (a * x + b * y - v) true
+      (linear-combination R (v ∷ x ∷ y ∷ a ∷ b ∷ []) (var 3 ⊗ (var 1 ⊖ var 0) ⊕ var 4 ⊗ (var 2 ⊖ var 0)) (var 3 ⊗ var 1 ⊕ var 4 ⊗ var 2 ⊖ var 0)
+      (fact (minus (var 0)) (var 3 ⊕ var 4) (lit 1) ∷ []) (e, tt) refl)
+      (F .laws .nonneg-add (a * (x - v)) (b * (y - v)) (F .laws .nonneg-mul a (x - v) p h) (F .laws .nonneg-mul b (y - v) q k))
+  mean-bounded high v x y a b p q e h k =
+      sign-equal (a * (v - x) + b * (v - y)) (v - (a * x + b * y)) true
+      (linear-combination R (v ∷ x ∷ y ∷ a ∷ b ∷ []) (var 3 ⊗ (var 0 ⊖ var 1) ⊕ var 4 ⊗ (var 0 ⊖ var 2)) (var 0 ⊖ (var 3 ⊗ var 1 ⊕ var 4 ⊗ var 2))
+      (fact (var 0) (var 3 ⊕ var 4) (lit 1) ∷ []) (e, tt) refl)
+      (F .laws .nonneg-add (a * (v - x)) (b * (v - y)) (F .laws .nonneg-mul a (v - x) p h) (F .laws .nonneg-mul b (v - y) q k))

@@ -78,9 +78,6 @@ product-sum a b c = equals-by (product a (sum b c)) (sum (product a b) (product 
 
 -- ---- zero and one
 
-upper-whole : (z : ℤ) → (whole z) .upper ≡ z
-upper-whole z = refl
-
 low-whole : (z : ℤ) → low (whole z) ≡ pos 1
 unfolding low
 low-whole z = refl

@@ -17,8 +17,6 @@ use Rattle.rounding.proofs.RoundError.{roundUnits, gridUnits, whole-coa
 use Rattle.rounding.proofs.FloatUnits.{InUnits, mul-units, add-units, div-units, sumSign, sumSize, ltb-over}
 use Rattle.rounding.proofs.SignedError.{sum-exact}
 use Rattle.rounding.proofs.CellError.{Room, cellIn, ofInt-whole}
-use Rattle.rounding.proofs.Ratio.{Ratio, Bounded}
-use Rattle.rounding.proofs.CellNear.{Near, size-bound}
 
 -- ---- one rounding of a whole number of units
 value-unique : (x : Float) (s t : Bool) (a b c : ℕ) → HasValue x s a c → HasValue x t b c → a ≡ b
@@ -160,15 +158,6 @@ pub record Sized (f : Format) (M : ℕ) (x : Float) : Type 0 where
   pub size : ℕ
   pub value : InUnits f x sign size
   pub at-most : size ≤ M
-
--- an entry of a triangle that is near a bounded number is so
-pub near-sized : (f : Format) (C e M : ℕ) (x : Float) (q : Ratio) → Bounded C q → C * 2 ^ low f + e ≤ M → Near f e x q → Sized f M x
-near-sized f C e M x q b m n = record {
-  sign = n .sign;
-  size = n .size;
-  value = n .value;
-  at-most = size-bound (n .sign) (n .size) C (2 ^ low f) e (q .more) (q .less) (q .under) M (b .above-zero) (b .high) (b .low) (n .close) m;
-}
 
 -- the law: a · 2 ^ k, b · 2 ^ k and (a + b) · 2 ^ k give the bits that a, b and a + b give
 pub cell-scaled : (f : Format) (M D H a b k : ℕ) (l r : Float) → Room f M D H → 0 < M → 0 < a + b → (a + b) * 2 ^ k ≤ D → Sized f M l → Sized f M r

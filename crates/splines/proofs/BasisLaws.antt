@@ -11,8 +11,7 @@ use Rattle.algebra.specs.OrderedField.{OrderedField, AtMost}
 use Rattle.algebra.specs.Ring.{fieldRing}
 use Rattle.algebra.proofs.RingLaws as Law
 use Rattle.algebra.proofs.FieldLaws.{nonneg-zero}
-use Rattle.algebra.proofs.OrderLaws.{sign-equal, nonneg-one}
-use Rattle.algebra.proofs.QuotientOrder.{div-nonneg}
+use Rattle.algebra.proofs.OrderLaws.{sign-equal, nonneg-one, div-nonneg}
 use Rattle.splines.specs.Basis.{basis}
 use Rattle.splines.specs.Span.{Rising, InSpan}
 use Rattle.splines.proofs.SpanLaws.{left-of, right-of}

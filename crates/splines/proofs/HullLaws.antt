@@ -9,7 +9,7 @@ use Rattle.algebra.specs.Operations.{Operations, sub, div}
 use Rattle.algebra.specs.OrderedField.{OrderedField, AtMost, Below, Side, Bounds}
 use Rattle.algebra.specs.Ring.{fieldRing}
 use Rattle.algebra.proofs.OrderLaws as Order
-use Rattle.algebra.proofs.QuotientOrder.{mean-bounded, div-nonneg}
+use Rattle.algebra.proofs.OrderLaws.{mean-bounded, div-nonneg}
 use Rattle.algebra.proofs.Expressions.{var, lit, _⊕_, _⊗_, _⊖_, expressions}
 use Rattle.algebra.proofs.Solver.{ring, linear-combination, fact}
 use Rattle.splines.specs.Basis.{basis, sumOf, curveAt}

@@ -10,13 +10,13 @@ fn text(t: &[u8]) {
 }
 
 // A word and a number.
-fn told(what: &[u8], n: u64) {
+fn print_number(what: &[u8], n: u64) {
     text(what);
     io::print_decimal(STDOUT_FILENO, n);
 }
 
 fn spaced(n: u64) {
-    told(b" ", n);
+    print_number(b" ", n);
 }
 
 fn bits(x: f64) {
@@ -56,7 +56,7 @@ fn point(degree: u32, knots: &[u16], xs: &[i32], ys: &[i32], t: u32) {
     let answer = point_at::point_at(degree, knots, xs, ys, t);
     match answer {
         PointAnswer::At(p) => place(p.x, p.y),
-        PointAnswer::Refused(n) => told(b" refused ", n as u64),
+        PointAnswer::Refused(n) => print_number(b" refused ", n as u64),
     }
 }
 
@@ -65,13 +65,13 @@ fn carried<'a>(degree: u32, knots: &[u16], xs: &'a [i32], ys: &'a [i32], t: u32,
     let mut refusal = 99;
     let part = carrying::carrying(degree, knots, xs, ys, t, axis, &mut refusal);
     coordinates(part);
-    told(b", refusal ", refusal as u64);
+    print_number(b", refusal ", refusal as u64);
 }
 
 fn answer(a: InsertAnswer) {
     match a {
-        InsertAnswer::Inserted(points) => told(b" points ", points as u64),
-        InsertAnswer::Refused(n) => told(b" refused ", n as u64),
+        InsertAnswer::Inserted(points) => print_number(b" points ", points as u64),
+        InsertAnswer::Refused(n) => print_number(b" refused ", n as u64),
     }
 }
 
