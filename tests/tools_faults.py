@@ -7,7 +7,7 @@ import sys
 import tempfile
 from concurrent.futures import ThreadPoolExecutor
 
-TOP = pathlib.Path(__file__).resolve().parents[2]
+TOP = pathlib.Path(__file__).resolve().parents[1]
 COPIED = ("tools", "tests", "examples", "README.md", "crates.txt")
 
 # The test and its part, the file of tools/, what stands there, and the fault.
