@@ -64,6 +64,8 @@ module _ (m : ℕ) (ts : List ℕ) (xs ys : List ℤ) (clamp : Rectangle) (c : C
         record {
           listed = there .1;
           span = there .2;
+          low = rw (map-at (λ i. getD ts i 0) (spansMet clamp m ts xs ys) (there .0) (there .1), there .2) refl;
+          high = rw (map-at (λ i. getD ts (i + 1) 0) (spansMet clamp m ts xs ys) (there .0) (there .1), there .2) refl;
           starts = rw (map-at (λ i. getD ts i 0) (spansMet clamp m ts xs ys) (there .0) (there .1), there .2) (holds .0);
           ends = rw (map-at (λ i. getD ts (i + 1) 0) (spansMet clamp m ts xs ys) (there .0) (there .1), there .2) (holds .1);
         },

@@ -3,7 +3,7 @@
 use mathlib.Core.Bool.{true}
 use mathlib.Core.List.{List}
 use mathlib.Core.Path.{_≡_}
-use Prim.Native.Nat.{ℕ, _-_, _*_, _≤_, _<_}
+use Prim.Native.Nat.{ℕ, _+_, _-_, _*_, _≤_, _<_}
 use lib.IntN.{ℤ}
 use lib.ListN.{length, getD}
 use Rattle.refusal.specs.Numbers.{accepted}
@@ -27,10 +27,12 @@ pub record InClamp (clamp : Rectangle) (m : ℕ) (ts : List ℕ) (xs ys : List �
   pub x : Within (clamp .«low_x») (clamp .«high_x») (exactAt m ts xs p q)
   pub y : Within (clamp .«low_y») (clamp .«high_y») (exactAt m ts ys p q)
 
--- entry k of the list is the span of p/q, and its two knots hold p/q: low ≤ p/q ≤ high
+-- entry k of the list is the span of p/q, its two knots are those of this very span, and they hold p/q: low ≤ p/q ≤ high
 pub record ReportedAt (clamp : Rectangle) (m : ℕ) (ts : List ℕ) (xs ys : List ℤ) (p q k : ℕ) : Type 0 where
   pub listed : k < length (spansMet clamp m ts xs ys)
   pub span : getD (spansMet clamp m ts xs ys) k 0 ≡ spanOf ts m (length xs - 1) p q
+  pub low : getD (lowKnots ts (spansMet clamp m ts xs ys)) k 0 ≡ getD ts (spanOf ts m (length xs - 1) p q) 0
+  pub high : getD (highKnots ts (spansMet clamp m ts xs ys)) k 0 ≡ getD ts (spanOf ts m (length xs - 1) p q + 1) 0
   pub starts : getD (lowKnots ts (spansMet clamp m ts xs ys)) k 0 * q ≤ p
   pub ends : p ≤ getD (highKnots ts (spansMet clamp m ts xs ys)) k 0 * q
 
