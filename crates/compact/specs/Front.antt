@@ -7,6 +7,9 @@ use Rattle.curve.specs.HandingOver.{roomNumber, HandsOut}
 use Rattle.compact.specs.declared.CompactAnswer.{CompactAnswer}
 use Rattle.compact.specs.declared.CompactAnswer.the-variants.{Compacted, Refused}
 
+abbrev pub shortPoints : ℕ  -- the points that the short work lists hold
+shortPoints = 64
+
 -- the curve d itself, and 0 or 15
 abbrev pub FrontComesTo : Lists → Lists → ℕ → Lists → Type 0
 FrontComesTo d lent number e = (e ≡ d) × (number ≡ roomNumber d lent)

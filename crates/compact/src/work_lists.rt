@@ -3,6 +3,7 @@ ghost use Prim.Native.Nat.{_≤_};
 ghost use Rattle.grid.specs.Check.{Passes};
 ghost use Rattle.curve.specs.Lists.{lists};
 ghost use Rattle.compaction.specs.Work.{Holding};
+ghost use Rattle.compact.specs.Front.{shortPoints};
 ghost use Rattle.compact.specs.Outcome.{CompactOutcome};
 ghost use lib.ListN.{length};
 
@@ -54,7 +55,7 @@ pub(crate) fn compact_short(
     out_ys: &mut [i32],
 ) -> crate::CompactAnswer
     requires { ⌜ Passes m (now knots) (now xs) (now ys) ⌝ }
-    requires { ⌜ length (now xs) ≤ 64 ⌝ }
+    requires { ⌜ length (now xs) ≤ shortPoints ⌝ }
     ensures answer { λ r. ⌜ CompactOutcome m (lists (now (knots .entry)) (now (xs .entry)) (now (ys .entry)))
         (lists (now («out_knots» .entry)) (now («out_xs» .entry)) (now («out_ys» .entry))) r
         (lists (now («out_knots» .exit)) (now («out_xs» .exit)) (now («out_ys» .exit))) ⌝ }

@@ -8,6 +8,7 @@ use lib.IntN.{ℤ, pos, _+ℤ_, _-ℤ_, _*ℤ_}
 use lib.ListN.{length, getD}
 use Rattle.refusal.specs.Chain.{Row, row, AnswersFirst}
 use Rattle.curve.specs.Lists.{Lists}
+use Rattle.grid.specs.Limits.{pointsMost}
 use Rattle.grid.specs.Rows.{occurrences}
 use Rattle.curve.specs.Sentences.{RoomWrong}
 use Rattle.checked.specs.Sentences.{curveRows}
@@ -54,7 +55,7 @@ ValueWrong m c v = (v ≤ getD (c .knots) m 0) ⊎ (getD (c .knots) (length (c .
 
 -- row 10: there are 1,024 points already
 abbrev pub Full : Lists → Type 0
-Full c = 1024 ≤ length (c .xs)
+Full c = pointsMost ≤ length (c .xs)
 
 -- row 11, on one axis: some quotient with j from i-m+1 to i is no whole number
 abbrev pub NotWholeOn : ℕ → List ℕ → List ℤ → ℕ → Type 0
