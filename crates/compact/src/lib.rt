@@ -1,14 +1,25 @@
 // Compacting a curve ("Inserting and removing a knot"): the call, for any input.
-mod front;
-mod work_lists;
+mod sizes;
 
+ghost use mathlib.Core.Path.{_≡_};
 ghost use Rattle.curve.specs.Lists.{lists};
 ghost use Rattle.compact.specs.Outcome.{CompactOutcome};
+ghost use Rattle.compact.specs.Sizes.{answerOf};
 
 // The number of knots that were removed, or why the call is refused.
 pub enum CompactAnswer {
     Compacted(usize),
     Refused(u32),
+}
+
+// What a pass answers, as the call's answer.
+fn answer(pass: work_lists::PassAnswer) -> CompactAnswer
+    ensures answer { λ r. ⌜ r ≡ answerOf pass ⌝ }
+{
+    match pass {
+        work_lists::PassAnswer::Took(count) => CompactAnswer::Compacted(count),
+        work_lists::PassAnswer::Refused(number) => CompactAnswer::Refused(number),
+    }
 }
 
 // One pass of removals; what is left goes to the three lent lists. A refusal leaves them as they were found.
@@ -29,14 +40,5 @@ pub fn compact(
     if number != refusal::ACCEPTED {
         return CompactAnswer::Refused(number);
     }
-    let m = degree as usize;
-    let points = xs.len();
-    if points == m + 1 {
-        // no inner knot: nothing can go
-        return front::hand_front(m, points, points, knots, xs, ys, out_knots, out_xs, out_ys);
-    }
-    if points <= work_lists::SHORT {
-        return work_lists::compact_short(m, knots, xs, ys, out_knots, out_xs, out_ys);
-    }
-    work_lists::compact_longest(m, knots, xs, ys, out_knots, out_xs, out_ys)
+    answer(sizes::compact_checked(degree as usize, knots, xs, ys, out_knots, out_xs, out_ys))
 }

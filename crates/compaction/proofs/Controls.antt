@@ -2,7 +2,7 @@
 use mathlib.Core.Bool.{Bool, true, false, _&&_, _||_, true≢false}
 use mathlib.Core.List.{List, [], _∷_}
 use mathlib.Core.Path.{_≡_, refl, sym, ap, _∙_}
-use Prim.Native.Nat.{ℕ, suc, _+_, _-_, _≤_, _<_}
+use Prim.Native.Nat.{ℕ, _+_, _-_, _≤_, _<_}
 use native.Mathlib.Omega.{arith}
 use lib.Dec.{leb, ltb}
 use lib.IntN.{ℤ, pos, negsuc, natAbs}
@@ -18,14 +18,14 @@ use Rattle.grid.specs.Rows.{degreeOk, pointCountOk, knotCountOk, risesFrom, kno
 use Rattle.grid.specs.Check.{checkedThen}
 use Rattle.checked.proofs.TestLaws.{every-passes}
 use Rattle.checked.proofs.OccurrenceLaws.{stands-at}
-use Rattle.insertion.specs.Insertion.{knotsUpTo, insertionSpan, insertedKnots, weightedSum, weight, insertedPoint, entries, insertedPoints, wholeFrom, wholePoints, inserted, pointAt}
+use Rattle.insertion.specs.Insertion.{knotsUpTo, insertionSpan, insertedKnots, weightedSum, weight, insertedPoint, entries, insertedPoints, wholeFrom, wholePoints, pointAt}
 use Rattle.insertion.specs.Judged.{valueOk, placeOk, wholeOk, insertableThen, insertionNumber}
 use Rattle.removal.specs.Removal.{withoutOne, Removes, Removable}
 use Rattle.removal.specs.Axis.{Reduced, AxisReinserts, leftFor}
 use Rattle.removal.proofs.EquationLaws.{reinserts-left, reinserts-right, reinserts-forward}
 use Rattle.removal.proofs.PolygonLaws.{reinserts-xs, reinserts-reduced}
 use Rattle.removal.proofs.SentenceLaws.{removal-takes-one}
-use Rattle.compaction.specs.Compaction.{Stays, RemovesWhile, stays, goesOn, IsNext, Pass, done, next, CompactsTo}
+use Rattle.compaction.specs.Compaction.{Stays, stays, goesOn, IsNext, done, next, CompactsTo}
 
 -- no entry lies above `low` and below v
 abbrev noneBetween : ℕ → ℕ → List ℕ → Bool

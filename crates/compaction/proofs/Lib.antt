@@ -1,10 +1,5 @@
--- Compaction: curves that come into working lists point by point, and a pass's one result.
-pub mod PartLaws
-pub mod FrontLaws
-pub mod TailLaws
-pub mod TryLaws
-pub mod ValueLaws
-pub mod GrowLaws
+-- Compaction: a pass has one result, and what it leaves.
 pub mod PassLaws
+pub mod OutcomeLaws
 pub mod SentenceLaws
 pub mod Controls

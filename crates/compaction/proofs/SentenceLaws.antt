@@ -1,16 +1,24 @@
--- What a pass leaves, removal by removal.
-use mathlib.Core.Logic.{_⊎_, inl, inr, ⊎-elim}
-use mathlib.Core.Path.{_≡_, refl, sym, _∙_}
-use Prim.Native.Nat.{ℕ, _+_, _≤_}
+-- What a pass leaves, removal by removal; and that the number which compacting comes to is that of the first row that applies.
+use mathlib.Core.Logic.{inl, inr, ⊎-elim}
+use mathlib.Core.Path.{_≡_, refl, sym, _∙_, subst}
+use Prim.Native.Nat.{ℕ, _+_}
 use native.Mathlib.Decide.{ℕ-discrete}
 use native.Mathlib.Omega.{arith}
-use lib.ListN.{length, getD}
 use Rattle.curve.specs.Lists.{Lists}
-use Rattle.grid.specs.Rows.{occurrences}
 use Rattle.removal.specs.Removal.{Removes}
 use Rattle.removal.proofs.SentenceLaws.{removal-takes-one}
-use Rattle.compaction.specs.Compaction.{Stays, RemovesWhile, stays, goesOn, Pass, done, next}
-use Rattle.compaction.specs.Sentences.{Leaves, PassLeaves, TurnEnds}
+use Rattle.compaction.specs.Compaction.{Stays, RemovesWhile, stays, goesOn, Pass, done, next, CompactsTo}
+use Rattle.compaction.specs.Sentences.{Leaves, PassLeaves, TurnEnds, NoRoomLeft, compactionRows, CompactionAnswersFirst}
+use Rattle.refusal.specs.Judging.{answered}
+use Rattle.refusal.proofs.ChainLaws.{Judges, accepts, judged, answers-first}
+use Rattle.curve.specs.HandingOver.{roomNumber}
+use Rattle.grid.specs.Check.{checkNumber}
+use Rattle.grid.proofs.ThenLaws.{checkedThen-passed}
+use Rattle.curve.specs.Sentences.{RoomWrong}
+use Rattle.checked.proofs.TestLaws.{fails-iff, room-judged}
+use Rattle.checked.proofs.SentenceLaws.{curve-judged}
+use Rattle.compaction.proofs.PassLaws.{pass-unique}
+use Rattle.compaction.specs.Outcome.{CompactionComesTo, refused, compacted, knotsTaken}
 
 leaves-all : (m : ℕ) (c : Lists) → Leaves m c c 0
 leaves-all m c =
@@ -57,9 +65,32 @@ pass-leaves-from {m} {low} (next {c = c} {d = d} {e = e} n w rest) =
 pub pass-leaves : PassLeaves
 pass-leaves m c d pass = pass-leaves-from pass
 
+-- as many knots went as the number says that is answered
+pub pass-counted : (m : ℕ) (c d : Lists) → CompactsTo m c d → Leaves m c d (knotsTaken c d)
+pass-counted m c d pass =
+    let w = pass-leaves m c d pass in
+    let same : w .0 ≡ knotsTaken c d = omega (arith, w .1 .points .0) in
+    subst (Leaves m c d) same (w .1)
+
 while-ends : {m v : ℕ} {c d : Lists} → RemovesWhile m v c d → Stays m v d
 while-ends (stays h) = h
 while-ends (goesOn r rest) = while-ends rest
 
 pub turn-ends : TurnEnds
 turn-ends m v c d w = while-ends w
+
+module _ (m : ℕ) (c lent : Lists) where
+  same-room : (d : Lists) → CompactsTo m c d → NoRoomLeft m c lent → RoomWrong d lent
+  same-room d pass (e, other, w) = subst (λ (l : Lists). RoomWrong l lent) (pass-unique other pass) w
+
+  comes-first : (number : ℕ) (d : Lists) → CompactionComesTo m c lent number d → Judges number (compactionRows m c lent)
+  unfolding checkNumber
+  comes-first number d (refused n e) = rw e (curve-judged m (c .knots) (c .xs) (c .ys) 0 _ (λ fine. absurd (n fine)))
+  comes-first number d (compacted p pass e) =
+      let short = room-judged d lent in
+      rw (e ∙ sym (checkedThen-passed m (c .knots) (c .xs) (c .ys) (roomNumber d lent) p))
+      (curve-judged m (c .knots) (c .xs) (c .ys) (roomNumber d lent) _ λ fine.
+      judged (λ h. (d, pass, short .failing h), λ w. (fails-iff short) .1 (same-room d pass w)) λ ok. accepts)
+
+pub compaction-answers-first : CompactionAnswersFirst
+compaction-answers-first m c lent number d h = answers-first number (compactionRows m c lent) refl (comes-first m c lent number d h)

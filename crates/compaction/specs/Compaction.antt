@@ -1,9 +1,6 @@
 -- Compaction (heading "Inserting and removing a knot"): a pass over the inner values, the smallest first, that removes at each value as long
 -- as that is possible. Built on `Removable`, the statement over every polygon, and on no way of finding one.
-use mathlib.Core.List.{List}
-use mathlib.Core.Path.{_≡_}
 use Prim.Native.Nat.{ℕ, _≤_, _<_}
-use lib.IntN.{ℤ}
 use lib.ListN.{length, getD}
 use Rattle.curve.specs.Lists.{Lists}
 use Rattle.grid.specs.Rows.{occurrences}

@@ -1,4 +1,4 @@
--- Compaction: one pass of removals, what it leaves, and curves in working lists.
+-- Compaction: one pass of removals, what a call comes to, and the same told over all entries.
 pub mod Compaction
+pub mod Outcome
 pub mod Sentences
-pub mod Work

@@ -9,8 +9,8 @@ use Rattle.refusal.specs.Judging.{answered}
 use Rattle.curve.specs.Lists.{Lists}
 use Rattle.curve.specs.HandingOver.{HandsOut}
 use Rattle.curve.proofs.HandingLaws.{Determined, hands-out-once}
-use Rattle.remove_knot.proofs.OutcomeLaws as removal
-use Rattle.compact.proofs.OutcomeLaws as compaction
+use Rattle.removal.proofs.OutcomeLaws as removal
+use Rattle.compaction.proofs.OutcomeLaws as compaction
 use Rattle.record.specs.Reading.{RecordRead, readAnswer}
 use Rattle.job.specs.JobReading.{JobRead, jobAnswer}
 use Rattle.round_trip.proofs.RecordTrip.{reading-determined}

@@ -23,7 +23,7 @@ pub(crate) fn insert_checked(
         return crate::InsertAnswer::Refused(refusal::INSERTION);
     }
     let value = v as u16;
-    let at = insertion::knots_up_to(knots, value);
+    let at = insertion_parts::knots_up_to(knots, value);
     let number = crate::judging::judge_at(m, knots, xs, ys, value, at);
     if number != refusal::ACCEPTED {
         return crate::InsertAnswer::Refused(number);

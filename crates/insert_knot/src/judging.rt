@@ -16,10 +16,10 @@ fn whole_ok(m: usize, knots: &[u16], xs: &[i32], ys: &[i32], v: u16, i: usize) -
     requires { ⌜ i ≡ insertionSpan (now knots) v ⌝ }
     ensures answer { λ r. ⌜ r ≡ wholeOk m (lists (now (knots .entry)) (now (xs .entry)) (now (ys .entry))) v ⌝ }
 {
-    if !insertion::whole_points(m, knots, xs, v, i) {
+    if !insertion_parts::whole_points(m, knots, xs, v, i) {
         return false;
     }
-    insertion::whole_points(m, knots, ys, v, i)
+    insertion_parts::whole_points(m, knots, ys, v, i)
 }
 
 // 0, or the number of inserting v behind the first `at` knots, where v lies strictly inside the domain.
@@ -29,7 +29,7 @@ pub(crate) fn judge_at(m: usize, knots: &[u16], xs: &[i32], ys: &[i32], v: u16, 
     requires { ⌜ at ≡ knotsUpTo v (now knots) ⌝ }
     ensures answer { λ r. ⌜ r ≡ insertableThen m (lists (now (knots .entry)) (now (xs .entry)) (now (ys .entry))) v 0 ⌝ }
 {
-    if insertion::stands(m, knots, v, at) {
+    if insertion_parts::stands(m, knots, v, at) {
         return refusal::INSERTION;
     }
     if grid::POINTS_MOST <= xs.len() {

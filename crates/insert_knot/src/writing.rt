@@ -30,7 +30,7 @@ pub(crate) fn write(
         (lists (now («out_knots» .entry)) (now («out_xs» .entry)) (now («out_ys» .entry))) ⌝ }
 {
     let i = at - 1;
-    insertion::insert_value(knots, v, at, out_knots);
-    insertion::insert_points(m, knots, xs, v, i, out_xs);
-    insertion::insert_points(m, knots, ys, v, i, out_ys);
+    insertion_parts::insert_value(knots, v, at, out_knots);
+    insertion_parts::insert_points(m, knots, xs, v, i, out_xs);
+    insertion_parts::insert_points(m, knots, ys, v, i, out_ys);
 }

@@ -4,7 +4,6 @@ pub mod MeanLaws
 pub mod EntryLaws
 pub mod PartLaws
 pub mod SpanLaws
-pub mod OccurrenceLaws
 pub mod KnotLaws
 pub mod QuotientLaws
 pub mod WholeLaws

@@ -12,9 +12,11 @@ use Rattle.point_at.proofs.SentenceLaws.{first-row-carries, point-answered, ref
 use Rattle.carrying.proofs.SentenceLaws.{part-of-asked-axis, refusal-hands-no-part}
 use Rattle.insertion.proofs.SentenceLaws.{inserted-by-index, insertion-answers-first}
 use Rattle.removal.proofs.SentenceLaws.{inserted-is-removed, removal-takes-one}
-use Rattle.remove_knot.proofs.SentenceLaws.{removal-answers-first, inserted-is-handed-back}
+use Rattle.removal.proofs.SentenceLaws.{removal-answers-first}
+use Rattle.remove_knot.proofs.SentenceLaws.{inserted-is-handed-back}
 use Rattle.compaction.proofs.SentenceLaws.{pass-leaves, turn-ends}
-use Rattle.compact.proofs.SentenceLaws.{compaction-answers-first, compaction-counts}
+use Rattle.compaction.proofs.SentenceLaws.{compaction-answers-first}
+use Rattle.compact.proofs.SentenceLaws.{compaction-counts}
 use Rattle.joining.proofs.SentenceLaws.{join-answers}
 use Rattle.span_walk.proofs.SentenceLaws.{listed-exactly, list-rises, knots-of-each-span}
 use Rattle.span_walk.proofs.CountLaws.{span-count-exactly}

@@ -18,9 +18,11 @@ use Rattle.point_at.specs.Sentences.{FirstRowCarries, PointAnswered, RefusalAns
 use Rattle.carrying.specs.Sentences.{PartOfAskedAxis, RefusalHandsNoPart}
 use Rattle.insertion.specs.Sentences.{InsertedByIndex, InsertionAnswersFirst}
 use Rattle.removal.specs.Sentences.{InsertedIsRemoved, RemovalTakesOne}
-use Rattle.remove_knot.specs.Sentences.{RemovalAnswersFirst, InsertedIsHandedBack}
+use Rattle.removal.specs.Sentences.{RemovalAnswersFirst}
+use Rattle.remove_knot.specs.Sentences.{InsertedIsHandedBack}
 use Rattle.compaction.specs.Sentences.{PassLeaves, TurnEnds}
-use Rattle.compact.specs.Sentences.{CompactionAnswersFirst, CompactionCounts}
+use Rattle.compaction.specs.Sentences.{CompactionAnswersFirst}
+use Rattle.compact.specs.Sentences.{CompactionCounts}
 use Rattle.joining.specs.Sentences.{JoinAnswersFirst}
 use Rattle.span_walk.specs.Sentences.{ListedExactly, ListRises, KnotsOfEachSpan, SpanCountExactly}
 use Rattle.spans_met.specs.Sentences.{ListAnswersFirst}

@@ -1,52 +1,27 @@
--- Both axes on the fewer knots: what the answers of the two say of a polygon.
-use mathlib.Core.Bool.{Bool, true, false, true≢false}
-use mathlib.Core.List.{List, _++_}
+-- A removal comes to one number and one curve.
 use mathlib.Core.Path.{_≡_, sym, ap, _∙_}
-use Prim.Native.Nat.{ℕ, suc, _+_, _-_}
-use native.Mathlib.Numerals.{add-one}
+use Prim.Native.Nat.{ℕ}
 use native.Mathlib.Omega.{arith}
-use lib.IntN.{ℤ}
-use lib.ListN.{length, take, drop}
-use Rattle.curve.specs.Lists.{lists}
-use Rattle.insertion.specs.Insertion.{knotsUpTo}
-use Rattle.removal.specs.Removal.{withoutOne}
-use Rattle.removal.specs.Axis.{Reduced, AxisReinserts, AxisOutcome}
-use Rattle.removal.specs.Polygon.{Inner, PolygonOutcome}
-use Rattle.removal.proofs.WithoutLaws.{inserted-upTo, inserted-parts}
-use Rattle.removal.proofs.PolygonLaws.{fewer-inserted, fewer-reduced, reinserts-xs, reinserts-ys, polygon-removes}
+use Rattle.curve.specs.Lists.{Lists}
+use Rattle.curve.specs.HandingOver.{roomNumber}
+use Rattle.removal.proofs.PolygonLaws.{removes-unique}
+use Rattle.removal.specs.Outcome.{RemovalComesTo, refused, notRemovable, removed}
 
--- the knots without the last v, which stands behind all other knots up to it
-module _ (m : ℕ) (ts : List ℕ) (xs ys : List ℤ) (v : ℕ) (inner : Inner m ts xs ys v) where
-  pub upTo-fewer : knotsUpTo v ts ≡ suc (knotsUpTo v (withoutOne v ts))
-  upTo-fewer = ap (knotsUpTo v) (sym (fewer-inserted m ts xs ys v inner)) ∙ inserted-upTo v (withoutOne v ts)
+module _ (m : ℕ) (c : Lists) (v : ℕ) (before : Lists) where
+  pub same-number : (n k : ℕ) (d e : Lists) → RemovalComesTo m c v before n d → RemovalComesTo m c v before k e → n ≡ k
+  same-number n k d e (refused r p) (refused s q) = p ∙ sym q
+  same-number n k d e (refused r p) (notRemovable z o q) = absurd (r z)
+  same-number n k d e (refused r p) (removed z o q) = absurd (r z)
+  same-number n k d e (notRemovable z o p) (refused s q) = absurd (s z)
+  same-number n k d e (notRemovable z o p) (notRemovable y w q) = p ∙ sym q
+  same-number n k d e (notRemovable z o p) (removed y r q) = absurd (o (record { without = e; removes = r }))
+  same-number n k d e (removed z r p) (refused s q) = absurd (s z)
+  same-number n k d e (removed z r p) (notRemovable y o q) = absurd (o (record { without = d; removes = r }))
+  same-number n k d e (removed z r p) (removed y s q) = p ∙ ap (λ (l : Lists). roomNumber l before) (removes-unique m v c d e r s) ∙ sym q
 
-  pub last-gone : (at : ℕ) → at ≡ knotsUpTo v (withoutOne v ts) → take at ts ++ drop (at + 1) ts ≡ withoutOne v ts
-  last-gone at e =
-      rw (add-one at, e)
-      (ap (λ (l : List ℕ). take (knotsUpTo v (withoutOne v ts)) l ++ drop (suc (knotsUpTo v (withoutOne v ts))) l) (sym (fewer-inserted m ts xs ys v inner))
-      ∙ inserted-parts v (withoutOne v ts))
-
-module _ (m : ℕ) (ts : List ℕ) (xs ys : List ℤ) (v : ℕ) (inner : Inner m ts xs ys v) (ks : List ℕ) (e : ks ≡ withoutOne v ts) where
-  pub outcome-reduced : (ps : List ℤ) → length ps ≡ length xs → Reduced m ks (length ps - 1) v
-  outcome-reduced ps size = rw e (fewer-reduced m ts xs ys v inner ps size)
-
-  -- no coordinates for x
-  pub outcome-no-x : (px py : List ℤ) (r : Bool) → AxisOutcome m ks v xs px r → r ≡ false → PolygonOutcome m (lists ts xs ys) v (lists ks px py) false
-  outcome-no-x px py r axis h =
-      record {
-        found = λ t. absurd (true≢false (sym t));
-        none = λ t p.
-            let d = p .without in
-            axis .none h (d .xs) (rw (e ∙ sym (p .removes .fewer)) (reinserts-xs m v (d .knots) (d .xs) (d .ys) ts xs ys (p .removes)));
-      }
-
-  -- coordinates for x: y decides
-  pub outcome-by-y : (px py : List ℤ) (rx ry : Bool) → AxisOutcome m ks v xs px rx → rx ≡ true → AxisOutcome m ks v ys py ry
-      → PolygonOutcome m (lists ts xs ys) v (lists ks px py) ry
-  outcome-by-y px py rx ry x h y =
-      record {
-        found = λ t. rw e (polygon-removes m ts xs ys v inner px py (rw e at (x .found h)) (rw e at (y .found t)));
-        none = λ t p.
-            let d = p .without in
-            y .none t (d .ys) (rw (e ∙ sym (p .removes .fewer)) (reinserts-ys m v (d .knots) (d .xs) (d .ys) ts xs ys (p .removes)));
-      }
+  pub same-curve : (d e : Lists) → RemovalComesTo m c v before 0 d → RemovalComesTo m c v before 0 e → d ≡ e
+  same-curve d e (removed z r p) (removed y s q) = removes-unique m v c d e r s
+  same-curve d e (refused r p) g = absurd (r (sym p))
+  same-curve d e (notRemovable z o p) g = absurd (omega arith)
+  same-curve d e (removed z r p) (refused s q) = absurd (s z)
+  same-curve d e (removed z r p) (notRemovable y o q) = absurd (omega arith)

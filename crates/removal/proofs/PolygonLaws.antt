@@ -1,10 +1,9 @@
 -- A polygon on the fewer knots is one of coordinates on each axis, and back; and there is at most one.
-use mathlib.Core.Bool.{true, false}
 use mathlib.Core.List.{List}
 use mathlib.Core.Path.{_≡_, refl, sym, ap, _∙_}
 use Prim.Native.Nat.{ℕ, zero, suc, _+_, _-_, _≤_, _<_}
 use native.Mathlib.Omega.{arith}
-use lib.IntN.{ℤ, pos, natAbs, _-ℤ_, _*ℤ_}
+use lib.IntN.{ℤ, pos, _-ℤ_, _*ℤ_}
 use lib.ListN.{length, getD}
 use lib.Seq.{ext-getD}
 use lib.Signed.{quotZ}
@@ -12,16 +11,16 @@ use borrow.Author.Tests.{le-leb, eq-eqb, ne-eqb, lt-ltb}
 use Rattle.curve.specs.Lists.{Lists, lists, NeverFall}
 use Rattle.curve.proofs.ListLaws.{lists-same, same-xs, same-ys}
 use Rattle.curve.proofs.RoomLaws.{enough-all}
-use Rattle.grid.specs.Limits.{pointsMost, coordinateMost}
+use Rattle.grid.specs.Limits.{pointsMost}
 use Rattle.grid.specs.Rows.{firstKnot, lastKnot, degreeOk, pointCountOk, knotCountOk, knotOrderOk, rangeOk, allOnGrid, occurrences, repeatsMost}
 use Rattle.grid.specs.Check.{Passes}
 use Rattle.refusal.proofs.JudgingLaws.{both}
 use Rattle.grid.proofs.CheckLaws.{passes-tests, check-accepts}
 use Rattle.grid.proofs.SizeLaws.{sizes-of-passes}
-use Rattle.insertion.specs.Insertion.{knotsUpTo, insertionSpan, insertedKnots, insertedPoints, pointAt, wholePoints}
+use Rattle.insertion.specs.Insertion.{knotsUpTo, insertionSpan, insertedKnots, pointAt, wholePoints}
 use Rattle.insertion.specs.Judged.{valueOk, placeOk, wholeOk}
 use Rattle.insertion.proofs.OrderLaws.{either}
-use Rattle.insertion.proofs.SpanLaws.{knotsUpTo-below, upTo-least, upTo-most}
+use Rattle.insertion.proofs.SpanLaws.{knotsUpTo-below}
 use Rattle.insertion.proofs.KnotLaws.{insertedKnots-length, insertedKnots-before, insertedKnots-here, insertedKnots-behind}
 use Rattle.insertion.proofs.PointLaws.{insertedPoints-length}
 use Rattle.insertion.proofs.CheckedLaws.{rises-of-test, sizes-of-grid, grid-of-sizes, value-of-test, inside-of-ends}

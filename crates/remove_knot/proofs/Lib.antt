@@ -1,4 +1,3 @@
 -- Laws of the removal call.
-pub mod JudgedLaws
 pub mod OutcomeLaws
 pub mod SentenceLaws

@@ -1,4 +1,3 @@
 -- The contract of removing a knot: when it is refused, what it answers and leaves, and its rows as sentences.
-pub mod Judged
 pub mod Outcome
 pub mod Sentences

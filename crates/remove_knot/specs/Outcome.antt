@@ -1,24 +1,11 @@
--- What removing a knot answers and leaves in the lent lists (headings "Inserting and removing a knot" and "Numbers of refusal"). The cases
--- shut each other out, and a polygon that gives the old points back is the only one, so no two outcomes differ.
-use mathlib.Core.Path.{_≡_}
+-- What removing a knot answers and leaves in the lent lists (headings "Inserting and removing a knot" and "Numbers of refusal").
 use Prim.Native.Nat.{ℕ}
 use lib.ListN.{length}
-use Rattle.refusal.specs.Numbers.{notRemovableRefused}
 use Rattle.curve.specs.Lists.{Lists}
-use Rattle.curve.specs.HandingOver.{roomNumber, HandsOut}
-use Rattle.removal.specs.Removal.{Removes, Removable}
+use Rattle.curve.specs.HandingOver.{HandsOut}
 use Rattle.remove_knot.specs.declared.RemoveAnswer.{RemoveAnswer}
 use Rattle.remove_knot.specs.declared.RemoveAnswer.the-variants.{Removed, Refused}
-use Rattle.remove_knot.specs.Judged.{removalNumber}
-
--- the number that removing v from c comes to, and the curve d without it; with a number above 0 nothing is said of d
-pub data RemovalComesTo (m : ℕ) (c : Lists) (v : ℕ) (lent : Lists) (number : ℕ) (d : Lists) : Type 0 where
-  -- 1 to 7 or 12 applies
-  refused : (removalNumber m c v ≡ 0 → ⊥) → number ≡ removalNumber m c v → RemovalComesTo m c v lent number d
-  -- no polygon gives the old points back: 13
-  notRemovable : removalNumber m c v ≡ 0 → (Removable m c v → ⊥) → number ≡ notRemovableRefused → RemovalComesTo m c v lent number d
-  -- d gives them back: 0, or 15 where a lent list is too short for it
-  removed : removalNumber m c v ≡ 0 → Removes m v c d → number ≡ roomNumber d lent → RemovalComesTo m c v lent number d
+use Rattle.removal.specs.Outcome.{RemovalComesTo}
 
 -- the number of points that are left, or the refusal number; and the lent lists
 abbrev pub RemovalOutcome : ℕ → Lists → ℕ → Lists → RemoveAnswer → Lists → Type 0

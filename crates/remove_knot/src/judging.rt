@@ -2,7 +2,7 @@
 ghost use mathlib.Core.Path.{_≡_};
 ghost use Rattle.curve.specs.Lists.{lists};
 ghost use Rattle.grid.specs.Check.{Passes};
-ghost use Rattle.remove_knot.specs.Judged.{innerOk, removalNumber};
+ghost use Rattle.removal.specs.Judged.{innerOk, removalNumber};
 
 // Whether v is an inner knot of a curve that has passed the check.
 fn inner_ok(m: usize, knots: &[u16], xs: &[i32], ys: &[i32], v: u32) -> bool
@@ -13,7 +13,7 @@ fn inner_ok(m: usize, knots: &[u16], xs: &[i32], ys: &[i32], v: u32) -> bool
         return false;
     }
     let value = v as u16;
-    insertion::stands(1, knots, value, insertion::knots_up_to(knots, value))
+    insertion_parts::stands(1, knots, value, insertion_parts::knots_up_to(knots, value))
 }
 
 // 1 to 7 or 12, or 0.

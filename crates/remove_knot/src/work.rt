@@ -28,7 +28,7 @@ pub(crate) fn remove_checked(
         (lists (now («out_knots» .entry)) (now («out_xs» .entry)) (now («out_ys» .entry))) r
         (lists (now («out_knots» .exit)) (now («out_xs» .exit)) (now («out_ys» .exit))) ⌝ }
 {
-    if !removal::remove_polygon(m, knots, xs, ys, v, work_knots, work_xs, work_ys) {
+    if !removal_polygon::remove_polygon(m, knots, xs, ys, v, work_knots, work_xs, work_ys) {
         return crate::RemoveAnswer::Refused(refusal::NOT_REMOVABLE);
     }
     let number = curve::hand_over(work_knots, work_xs, work_ys, out_knots, out_xs, out_ys);

@@ -2,14 +2,14 @@
 -- `before` and `now` are the lent lists before the call and after it, `held` and `holds` the single numbers lent with them.
 use mathlib.Core.List.{List}
 use mathlib.Core.Path.{_≡_}
-use Prim.Native.Nat.{ℕ, _-_}
+use Prim.Native.Nat.{ℕ}
 use lib.IntN.{ℤ}
 use lib.ListN.{length}
 use Rattle.lent.specs.Lent.{after}
 use Rattle.curve.specs.Lists.{Lists}
 use Rattle.curve.specs.HandingOver.{handedOver}
-use Rattle.remove_knot.specs.Outcome.{RemovalComesTo}
-use Rattle.compact.specs.Outcome.{CompactionComesTo}
+use Rattle.removal.specs.Outcome.{RemovalComesTo}
+use Rattle.compaction.specs.Outcome.{CompactionComesTo, knotsTaken}
 use Rattle.clamps.specs.Clamp.{Clamp, allSides}
 use Rattle.record.specs.Reading.{RecordComesTo}
 use Rattle.job.specs.JobReading.{JobComesTo}
@@ -28,7 +28,7 @@ RemovalHandsBack m c v before = HandsBack (RemovalComesTo m c v before) (λ d. l
 
 -- compacting c: the points that are left, and how many fewer they are
 abbrev pub CompactionHandsBack : ℕ → Lists → Lists → ℕ × ℕ → ℕ → Lists → ℕ × ℕ → Type 0
-CompactionHandsBack m c before = HandsBack (CompactionComesTo m c before) (λ d. (length (d .xs), length (c .xs) - length (d .xs))) before
+CompactionHandsBack m c before = HandsBack (CompactionComesTo m c before) (λ d. (length (d .xs), knotsTaken c d)) before
 
 -- reading a record: degree and number of points
 pub record RecordHandsBack (bytes : List ℕ) (before : Lists) (held : ℕ × ℕ) (number : ℕ) (now : Lists) (holds : ℕ × ℕ) : Type 0 where

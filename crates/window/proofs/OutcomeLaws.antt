@@ -8,7 +8,8 @@ use lib.IntN.{ℤ}
 use lib.ListN.{length, take}
 use lib.Seq.{take-all}
 use Rattle.lent.specs.Lent.{over}
-use Rattle.removal.specs.Axis.{AxisReinserts, AxisOutcome}
+use Rattle.removal.specs.Axis.{AxisReinserts}
+use Rattle.removal_walk.specs.Walk.{AxisOutcome}
 use Rattle.window.specs.Window.{middle, closed, Window, Closed, Stuck, WindowOutcome}
 
 -- a copy of a list that is no longer than the one it goes over

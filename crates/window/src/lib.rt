@@ -54,10 +54,10 @@ fn remove_by_axes(
     ensures answer { λ r. ⌜ WindowOutcome m (now (knots .entry)) (now (xs .entry)) (now (ys .entry)) (now (knots .exit)) (now (xs .exit)) (now (ys .exit)) r ⌝ }
 {
     let v = knots[m + 1];
-    if !removal::remove_axis(m, ks, xs, v, m, px) {
+    if !removal_walk::remove_axis(m, ks, xs, v, m, px) {
         return false;
     }
-    if !removal::remove_axis(m, ks, ys, v, m, py) {
+    if !removal_walk::remove_axis(m, ks, ys, v, m, py) {
         return false;
     }
     copying::copy_knots(ks, knots);

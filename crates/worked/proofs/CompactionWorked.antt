@@ -8,7 +8,7 @@ use Rattle.curve.proofs.HandingLaws.{ends-done}
 use Rattle.grid.specs.Rows.{degreeOk, pointCountOk, knotCountOk, risesFrom, knotOrderOk, allAre, endsOk, occurrences, repeatsMost, repeatsWithin, repeatsOk, onGrid, allOnGrid, rangeOk}
 use Rattle.grid.specs.Check.{checkedThen, checkNumber}
 use Rattle.compaction.proofs.Controls.{twice, never, double-goes, both-values, no-value, both-go, three, without-three, one-pass}
-use Rattle.compact.specs.Outcome as Outcome
+use Rattle.compaction.specs.Outcome as Outcome
 use Rattle.compact.specs.declared.CompactAnswer.the-variants.{Compacted, Refused}
 use Rattle.worked.specs.Case.{Holds, compacted, placesOf}
 use Rattle.worked.specs.Worked.{curveC, curveC-doubled, curveD, curveD-refined, curveE, curveE-passed}

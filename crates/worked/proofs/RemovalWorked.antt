@@ -20,8 +20,8 @@ use Rattle.removal.specs.Removal.{withoutOne, Removes, Removable}
 use Rattle.removal.specs.Axis.{AxisReinserts, Reduced}
 use Rattle.removal.proofs.EquationLaws.{reinserts-left, reinserts-right, reinserts-forward}
 use Rattle.removal.proofs.PolygonLaws.{reinserts-xs, reinserts-reduced}
-use Rattle.remove_knot.specs.Judged.{innerOk, removalNumber}
-use Rattle.remove_knot.specs.Outcome as Outcome
+use Rattle.removal.specs.Judged.{innerOk, removalNumber}
+use Rattle.removal.specs.Outcome as Outcome
 use Rattle.remove_knot.specs.declared.RemoveAnswer.the-variants.{Removed, Refused}
 use Rattle.worked.specs.Case.{Holds, removedNot, removed, placesOf, noPlaces}
 use Rattle.worked.specs.Worked.{curveB, curveB-wider, curveB-parabola}

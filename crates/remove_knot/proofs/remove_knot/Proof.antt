@@ -7,8 +7,8 @@ use Rattle.grid.proofs.SizeLaws.{sizes-of-passes}
 use Rattle.removal.specs.Polygon.{Inner}
 use Rattle.curve.proofs.HandingLaws.{ends-untouched}
 use Rattle.remove_knot.specs.declared.RemoveAnswer.the-variants.{Removed, Refused}
-use Rattle.remove_knot.specs.Outcome.{RemovalComesTo, refused}
-use Rattle.remove_knot.proofs.JudgedLaws.{inner-of-number}
+use Rattle.removal.specs.Outcome.{RemovalComesTo, refused}
+use Rattle.removal.proofs.JudgedLaws.{inner-of-number}
 use borrow.Author.Needs.{needs}
 use Rattle.remove_knot.proofs.remove_knot.Statement.{statement}
 use Rattle.remove_knot.proofs.remove_knot.Tie as tie

@@ -8,7 +8,7 @@ use Rattle.span.specs.Span.{strictlyInside}
 use Rattle.grid.proofs.CheckLaws.{passes-tests}
 use Rattle.insertion.proofs.CheckedLaws.{inside-ends, insertable-xs}
 use Rattle.insertion.proofs.SpanLaws.{upTo-least}
-use Rattle.remove_knot.specs.Judged.{innerOk}
+use Rattle.removal.specs.Judged.{innerOk}
 use borrow.Author.Needs.{needs}
 use Rattle.remove_knot.proofs.judging.inner_ok.Statement.{statement}
 use Rattle.remove_knot.proofs.judging.inner_ok.Tie as tie

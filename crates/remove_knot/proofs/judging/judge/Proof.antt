@@ -1,7 +1,7 @@
 -- The check first, then row 12.
 use mathlib.Core.Path.{_≡_, sym, _∙_}
 use borrow.Author.Tests.{not-true, not-false}
-use Rattle.remove_knot.proofs.JudgedLaws.{number-refused, number-not-inner, number-accepted}
+use Rattle.removal.proofs.JudgedLaws.{number-refused, number-not-inner, number-accepted}
 use borrow.Author.Needs.{needs}
 use Rattle.remove_knot.proofs.judging.judge.Statement.{statement}
 use Rattle.remove_knot.proofs.judging.judge.Tie as tie

@@ -5,8 +5,8 @@ use borrow.Author.Tests.{not-true, not-false}
 use Rattle.curve.specs.Lists.{Lists, lists}
 use Rattle.curve.proofs.HandingLaws.{ends-refused, ends-untouched, ends-done}
 use Rattle.remove_knot.specs.declared.RemoveAnswer.the-variants.{Removed, Refused}
-use Rattle.remove_knot.specs.Outcome.{RemovalComesTo, notRemovable, removed}
-use Rattle.remove_knot.proofs.JudgedLaws.{number-of-inner}
+use Rattle.removal.specs.Outcome.{RemovalComesTo, notRemovable, removed}
+use Rattle.removal.proofs.JudgedLaws.{number-of-inner}
 use borrow.Author.Needs.{needs}
 use Rattle.remove_knot.proofs.work.remove_checked.Statement.{statement}
 use Rattle.remove_knot.proofs.work.remove_checked.Tie as tie

@@ -1,0 +1,3 @@
+-- Laws of one pass in working lists.
+pub mod FrontLaws
+pub mod GrowLaws

@@ -1,0 +1,2 @@
+-- One pass of compaction in working lists.
+pub mod Outcome

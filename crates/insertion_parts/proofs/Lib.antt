@@ -1,0 +1,2 @@
+-- Laws of the parts that insert a knot.
+pub mod OccurrenceLaws

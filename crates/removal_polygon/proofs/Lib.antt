@@ -1,0 +1,2 @@
+-- Laws of removing a knot from both axes.
+pub mod OutcomeLaws

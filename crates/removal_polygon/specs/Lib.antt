@@ -1,0 +1,2 @@
+-- Removing a knot from both axes.
+pub mod Outcome

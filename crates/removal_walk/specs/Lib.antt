@@ -1,0 +1,2 @@
+-- Removing a knot: what the parts that run answer.
+pub mod Walk

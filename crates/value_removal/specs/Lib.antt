@@ -1,0 +1,2 @@
+-- Removing a value from the front of a curve: curves in working lists.
+pub mod Work

@@ -1,0 +1,2 @@
+-- Laws of a pass whose result is handed over.
+pub mod OutcomeLaws
