@@ -1,7 +1,7 @@
 -- What a removal takes, that it undoes an insertion, and that the number it comes to is that of the first row that applies.
 use mathlib.Core.List.{List, _∷_, []}
 use mathlib.Core.Path.{_≡_, refl, sym, ap, _∙_, subst}
-use Prim.Native.Nat.{ℕ, suc, _+_, _<_}
+use Prim.Native.Nat.{ℕ, suc, _+_}
 use native.Mathlib.Nat.{le-refl}
 use native.Mathlib.Omega.{arith}
 use lib.ListN.{length, getD}
@@ -20,26 +20,22 @@ use Rattle.insertion.proofs.JudgedLaws.{accepted-of-number, number-of-accepted}
 use Rattle.insertion.proofs.PassLaws.{occurrences-inserted}
 use Rattle.insertion.proofs.ResultLaws.{accepted-xs}
 use Rattle.removal.specs.Removal.{Removes}
-use Rattle.removal.specs.Sentences.{RemovalTakesOne, InsertedIsRemoved, NotInner, NoPolygon, NoRoomWithout, removalRows, RemovalAnswersFirst}
+use Rattle.removal.specs.Sentences.{RemovalTakesOne, InsertedIsRemoved, NoPolygon, NoRoomWithout, removalRows, RemovalAnswersFirst}
 use Rattle.removal.proofs.PolygonLaws.{removes-unique}
 use Rattle.removal.proofs.WithoutLaws.{inserted-without}
-use lib.Dec.{leb}
-use borrow.Author.Tests.{leb-true, leb-false}
 use Rattle.refusal.specs.Judging.{unless}
 use Rattle.refusal.specs.Numbers.{notInnerRefused}
 use Rattle.refusal.specs.Chain.{Row, row}
 use Rattle.refusal.proofs.ChainLaws.{Judges, accepts, refuses, passes, judged, answers-first}
 use Rattle.curve.specs.HandingOver.{roomNumber}
-use Rattle.span.specs.Span.{strictlyInside}
 use Rattle.grid.specs.Check.{checkedThen}
 use Rattle.grid.proofs.ThenLaws.{checkedThen-passed}
 use Rattle.curve.specs.Sentences.{RoomWrong}
-use Rattle.checked.proofs.TestLaws.{Judged, fails-iff, passes-from, ltb-judged, three-judged, room-judged}
-use Rattle.checked.proofs.OccurrenceLaws.{stands-at, occurs-at}
+use Rattle.checked.proofs.TestLaws.{fails-iff, passes-from, room-judged}
 use Rattle.checked.proofs.SentenceLaws.{curve-judged}
 use Rattle.removal.specs.Judged.{innerOk, removalNumber}
 use Rattle.removal.specs.Outcome.{RemovalComesTo, refused, notRemovable, removed}
-use Rattle.removal.proofs.JudgedLaws.{number-accepted, inner-of-number}
+use Rattle.removal.proofs.JudgedLaws.{inner-judged, number-accepted, inner-of-number}
 
 pub inserted-is-removed : InsertedIsRemoved
 unfolding knotOrderOk
@@ -87,21 +83,6 @@ removal-takes-one m v c d r =
       stop = stop;
       inside = (omega (arith, inside .0), omega (arith, inside .1));
     }
-
--- some knot is v, or none is
-present-judged : (v : ℕ) (ts : List ℕ) → Judged (leb 1 (occurrences v ts)) (0 < occurrences v ts) ((k : ℕ) → k < length ts → getD ts k 0 ≡ v → ⊥)
-present-judged v ts =
-    record {
-      passing = leb-true 1 (occurrences v ts);
-      failing = λ h k i e. omega (arith, leb-false 1 (occurrences v ts) h, occurs-at v ts k i e);
-      clash = λ p none. let at = stands-at v ts p in none (at .0) (at .1) (at .2);
-    }
-
-inner-judged : (m : ℕ) (c : Lists) (v : ℕ) → Judged (innerOk m (c .knots) (c .xs) v)
-    ((getD (c .knots) m 0 < v) × (v < getD (c .knots) (length (c .xs)) 0) × (0 < occurrences v (c .knots)))
-    (NotInner m c v)
-unfolding innerOk strictlyInside
-inner-judged m c v = three-judged (ltb-judged _ _) (ltb-judged _ _) (present-judged v (c .knots))
 
 module _ (m : ℕ) (c : Lists) (v : ℕ) (lent : Lists) where
   -- 13 and 15, where 1 to 7 and 12 do not apply

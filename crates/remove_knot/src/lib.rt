@@ -2,13 +2,26 @@
 mod judging;
 mod work;
 
+ghost use mathlib.Core.Path.{_≡_};
+ghost use Rattle.refusal.specs.Judging.{answered};
 ghost use Rattle.curve.specs.Lists.{lists};
+ghost use Rattle.remove_knot.specs.declared.RemoveAnswer.the-variants.{Removed, Refused};
 ghost use Rattle.remove_knot.specs.Outcome.{RemovalOutcome};
 
 // The number of points after the removal, or why it is refused.
 pub enum RemoveAnswer {
     Removed(usize),
     Refused(u32),
+}
+
+// The answer by the number that a removal comes to, and the points that are left where it is 0.
+fn answer(number: u32, left: usize) -> RemoveAnswer
+    ensures answer { λ r. ⌜ r ≡ answered Removed Refused number left ⌝ }
+{
+    if number != refusal::ACCEPTED {
+        return RemoveAnswer::Refused(number);
+    }
+    RemoveAnswer::Removed(left)
 }
 
 // Removes v once: the knots, x and y that are left go to the three lent lists. A refusal leaves them as they were found.
@@ -33,7 +46,7 @@ pub fn remove_knot(
     let mut work_knots = [0u16; grid::KNOTS_MOST];
     let mut work_xs = [0i32; grid::POINTS_MOST];
     let mut work_ys = [0i32; grid::POINTS_MOST];
-    work::remove_within(
+    let handed = work::remove_within(
         degree as usize,
         knots,
         xs,
@@ -45,5 +58,6 @@ pub fn remove_knot(
         out_knots,
         out_xs,
         out_ys,
-    )
+    );
+    answer(handed, xs.len() - 1)
 }

@@ -43,3 +43,7 @@ product-size a z ha hz =
 
 pub product-fits : (a : ℕ) (z : ℤ) → a < 2 ^ 16 → SFits w32 z → SFits w64 (pos a *ℤ z)
 product-fits a z ha hz = fits64-of-size (pos a *ℤ z) (omega (arith, product-size a z ha hz))
+
+-- what `product` answered, read again
+pub read-product : (a : ℕ) (z r : ℤ) → a < 2 ^ 16 → SFits w32 z → r ≡ pos a *ℤ toZ w32 (ofZ w32 z) → toZ w64 (ofZ w64 r) ≡ pos a *ℤ z
+read-product a z r ha hz e = rw (e, toZ-ofZ w32 z hz) (toZ-ofZ w64 (pos a *ℤ z) (product-fits a z ha hz))

@@ -1,9 +1,9 @@
 -- The products fit an i64, and so does their sum.
 use mathlib.Core.Path.{_≡_}
 use lib.IntN.{pos, _+ℤ_, _*ℤ_}
-use mir.Syntax.{w32, w64}
+use mir.Syntax.{w64}
 use mir.ValLaws.{toZ-ofZ}
-use Rattle.signed.proofs.FitLaws.{product-fits}
+use Rattle.signed.proofs.FitLaws.{read-product}
 use Rattle.insertion.proofs.MeanLaws.{products-fit}
 use borrow.Author.Needs.{needs}
 use Rattle.insertion_parts.proofs.weighted_sum.Statement.{statement}
@@ -19,26 +19,19 @@ add-result : tie.Need-add-result
 add-result c =
     let a = c .before .before .args in
     let f = c .before .before .fits in
-    rw (
-      rw (toZ-ofZ w32 (a .p) (f .p)) at (c .before .product .ensures),
-      rw (toZ-ofZ w32 (a .q) (f .q)) at (c .product2 .ensures),
-      toZ-ofZ w64 (pos (a .left) *ℤ a .p) (product-fits (a .left) (a .p) (f .left .fits) (f .p)),
-      toZ-ofZ w64 (pos (a .right) *ℤ a .q) (product-fits (a .right) (a .q) (f .right .fits) (f .q)),
-    )
+    let first = c .before .product in
+    let second = c .product2 in
+    rw (read-product (a .left) (a .p) (first .result) (f .left .fits) (f .p) (first .ensures), read-product (a .right) (a .q) (second .result) (f .right .fits) (f .q) (second .ensures))
     (products-fit (a .left) (a .right) (a .p) (a .q) (f .left .fits) (f .right .fits) (f .p) (f .q))
 
 returns : tie.Need-returns
 returns c =
     let a = c .before .before .args in
     let f = c .before .before .fits in
-    rw (
-      rw (toZ-ofZ w32 (a .p) (f .p)) at (c .before .product .ensures),
-      rw (toZ-ofZ w32 (a .q) (f .q)) at (c .product2 .ensures),
-      toZ-ofZ w64 (pos (a .left) *ℤ a .p) (product-fits (a .left) (a .p) (f .left .fits) (f .p)),
-      toZ-ofZ w64 (pos (a .right) *ℤ a .q) (product-fits (a .right) (a .q) (f .right .fits) (f .q)),
-    )
-    (toZ-ofZ w64 (pos (a .left) *ℤ a .p +ℤ pos (a .right) *ℤ a .q)
-    (products-fit (a .left) (a .right) (a .p) (a .q) (f .left .fits) (f .right .fits) (f .p) (f .q)))
+    let first = c .before .product in
+    let second = c .product2 in
+    rw (read-product (a .left) (a .p) (first .result) (f .left .fits) (f .p) (first .ensures), read-product (a .right) (a .q) (second .result) (f .right .fits) (f .q) (second .ensures))
+    (toZ-ofZ w64 (pos (a .left) *ℤ a .p +ℤ pos (a .right) *ℤ a .q) (products-fit (a .left) (a .right) (a .p) (a .q) (f .left .fits) (f .right .fits) (f .p) (f .q)))
 
 pub weighted-sum-spec : {M : Type 1} → statement M
 weighted-sum-spec = tie.close (tie.spec product-requires product-requires-2 add-result returns)

@@ -9,6 +9,7 @@ use Rattle.curve.proofs.HandingLaws.{ends-untouched}
 use Rattle.remove_knot.specs.declared.RemoveAnswer.the-variants.{Removed, Refused}
 use Rattle.removal.specs.Outcome.{RemovalComesTo, refused}
 use Rattle.removal.proofs.JudgedLaws.{inner-of-number}
+use Rattle.remove_knot.proofs.OutcomeLaws.{outcome-of-handed}
 use borrow.Author.Needs.{needs}
 use Rattle.remove_knot.proofs.remove_knot.Statement.{statement}
 use Rattle.remove_knot.proofs.remove_knot.Tie as tie
@@ -49,17 +50,30 @@ remove-within-requires c κs =
     let z = sizes-of-passes (a .degree) (a .knots .now) (a .xs .now) (a .ys .now) (i .passes) in
     (i, (omega (arith, z .knots, z .most, z .degree-most), (omega (arith, z .most), omega (arith, z .most, z .as-many))))
 
+sub-answer : tie.Need-sub-answer
+sub-answer c =
+    let i = inner (c .before .before .before .before .before .before .before .before .before .before .before .before .before .before) in
+    let a = c .before .before .before .before .before .before .before .before .before .before .before .before .before .before .before .before .before .before .args in
+    omega (arith, sizes-of-passes (a .degree) (a .knots .now) (a .xs .now) (a .ys .now) (i .passes) .enough)
+
+answer-requires : tie.Need-answer-requires
+answer-requires c κs = search needs
+
 same-length : tie.Need-same-length
-same-length c = c .before .before .before .before .before .before .before .remove-within .kept .1 .1 .1 .1 .1 .1 .1 .1 .0
+same-length c = search needs
 
 same-length-2 : tie.Need-same-length-2
-same-length-2 c = c .before .before .before .before .before .before .before .remove-within .kept .1 .1 .1 .1 .1 .1 .1 .1 .1 .0
+same-length-2 c = search needs
 
 same-length-3 : tie.Need-same-length-3
-same-length-3 c = c .before .before .before .before .before .before .before .remove-within .kept .1 .1 .1 .1 .1 .1 .1 .1 .1 .1 .0
+same-length-3 c = search needs
 
 returns-2 : tie.Need-returns-2
-returns-2 c = search needs
+returns-2 c =
+    let a = c .before .before .before .before .before .before .before .before .before .before .before .before .before .before .before .before .before .before .before .args in
+    let h = c .before .before .before .before .before .before .before .before .remove-within in
+    outcome-of-handed (a .degree) (lists (a .knots .now) (a .xs .now) (a .ys .now)) (a .v) (lists (a .out-knots .now) (a .out-xs .now) (a .out-ys .now)) (h .result)
+    (lists (h .last .1 .1 .1 .1 .1 .1 .1 .1 .0) (h .last .1 .1 .1 .1 .1 .1 .1 .1 .1 .0) (h .last .1 .1 .1 .1 .1 .1 .1 .1 .1 .1 .0)) (c .answer .result) (h .ensures) (c .answer .ensures)
 
 pub remove-knot-spec : {M : Type 1} → statement M
 remove-knot-spec =
@@ -72,6 +86,8 @@ remove-knot-spec =
     slice-aggregate-remove-within-2
     slice-aggregate-remove-within-3
     remove-within-requires
+    sub-answer
+    answer-requires
     same-length
     same-length-2
     same-length-3
