@@ -1,5 +1,7 @@
 // The parts of compacting a curve ("Inserting and removing a knot"). The curve comes into working lists point by point; as soon as the last knot
 // of a value is there, the value is dealt with. A removal changes the last few points alone, so a pass takes time in proportion to the lists.
+mod start;
+
 ghost use Rattle.grid.specs.Check.{Passes};
 ghost use Rattle.curve.specs.Lists.{lists};
 ghost use Rattle.value_removal.specs.Work.{Holding};
@@ -24,10 +26,7 @@ pub fn compact_into(
 {
     let n = xs.len();
     let width = m + 1;
-    let ends = width + width;
-    copying::copy_knots(&knots[..ends], front_knots);
-    copying::copy_coordinates(&xs[..width], front_xs);
-    copying::copy_coordinates(&ys[..width], front_ys);
+    start::copy_first(width, knots, xs, ys, front_knots, front_xs, front_ys);
     let mut left = width;
     let mut taken = width;
     while taken < n {
