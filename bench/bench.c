@@ -1,7 +1,7 @@
 /*
  * The proved library against the same calls written plainly in C, in one process on the same inputs. Both must give the same numbers, lists and
- * places; then each is timed, the two in turn, and the least time of all rounds counts (2,000, or as many as two seconds hold). Prints nanoseconds a call, the ratio, and how the
- * library's time grows with the number of points.
+ * places, on broken records too; then each is timed, the two in turn, and the least time of all rounds counts (2,000, or as many as two seconds
+ * hold). Prints nanoseconds a call, the ratio, and how the library's time grows with the number of points.
  * Build and run: bench/run.sh
  */
 #include <stddef.h>
@@ -71,7 +71,7 @@ static struct output by_library, by_plain;
             case INSERT: refusal |= side##_insert(FOR_INSERTION, in.v, PLACES, &out->count); break;                         \
             case JOIN: refusal |= side##_join(SPLINE, PLACES, &out->count); break;                                          \
             case WRITE: refusal |= side##_write_record(GIVEN, out->bytes, TSB_RECORD_MOST, &out->count); break;             \
-            case READ: refusal |= side##_read_record(in.bytes, in.length, PLACES, &out->degree, &out->count); break;        \
+            case READ: refusal |= side##_read_record(in.bytes, in.length, PLACES, &out->degree, &out->count, &out->place); break; \
             case COMPACT: refusal |= side##_compact(SLACK, PLACES, &out->count, &out->place); break;                        \
             case CALLS: break;                                                                                              \
             }                                                                                                               \
@@ -147,6 +147,35 @@ static int agree(enum call call)
     return 1;
 }
 
+/* Whether the two sides tell the same of the first bytes of the record, and leave everything else alike. */
+static int agree_on_first(size_t length)
+{
+    in.length = length;
+    memset(&by_library, 85, sizeof by_library);
+    memset(&by_plain, 85, sizeof by_plain);
+    repeat_tsb(READ, 1, &by_library);
+    repeat_plain(READ, 1, &by_plain);
+    return memcmp(&by_library, &by_plain, sizeof by_library) == 0;
+}
+
+/* The record cut at every byte, with every byte changed in four ways, and with a byte behind it: number and place of the fault. */
+static int agree_on_broken(void)
+{
+    static const uint8_t masks[] = {1, 2, 128, 255};
+    size_t length = in.length;
+    int same = agree_on_first(length + 1);
+    for (size_t at = 0; at < length; at++) {
+        same &= agree_on_first(at);
+        for (size_t k = 0; k < sizeof masks; k++) {
+            in.bytes[at] ^= masks[k];
+            same &= agree_on_first(length);
+            in.bytes[at] ^= masks[k];
+        }
+    }
+    in.length = length;
+    return same;
+}
+
 static double now(void)
 {
     struct timespec t;
@@ -193,6 +222,10 @@ int main(void)
 
     for (size_t s = 0; s < SIZES; s++) {
         fill_input(sizes[s]);
+        if (s == 0 && !agree_on_broken()) {
+            printf("the two sides differ on a broken record\n");
+            return 1;
+        }
         for (int call = 0; call < CALLS; call++) {
             if (!agree((enum call)call)) {
                 printf("%s at %u points: the two sides differ\n", names[call], (unsigned)sizes[s]);

@@ -44,15 +44,29 @@ uint32_t plain_write_record(CURVE, uint8_t *restrict out, size_t out_len, size_t
     return TSB_OK;
 }
 
-/* A field that begins at `at` with this tag, in entries of `width` bytes and of at most `most` bytes: its length, or -1. */
-static int64_t field(const uint8_t *bytes, size_t bytes_len, size_t at, uint8_t tag, size_t width, size_t most)
+static uint32_t fault(uint32_t refusal, size_t at, size_t *restrict place)
 {
-    if (bytes_len < at + 3 || bytes[at] != tag)
-        return -1;
-    size_t length = bytes[at + 1] + 256 * (size_t)bytes[at + 2];
-    if (length > most || length % width != 0 || bytes_len < at + 3 + length)
-        return -1;
-    return (int64_t)length;
+    *place = at;
+    return refusal;
+}
+
+/* A field that begins at `at` with this tag, in entries of `width` bytes and of `least` to `most` bytes: its length, or its first fault and the place of it. */
+static uint32_t field(
+    const uint8_t *bytes, size_t bytes_len, size_t at, uint8_t tag, size_t width, size_t least, size_t most,
+    size_t *restrict length, size_t *restrict place)
+{
+    if (at == bytes_len)
+        return fault(TSB_ENDED, bytes_len, place);
+    if (bytes[at] != tag)
+        return fault(TSB_TAG, at, place);
+    if (bytes_len - at < 3)
+        return fault(TSB_ENDED, bytes_len, place);
+    *length = bytes[at + 1] + 256 * (size_t)bytes[at + 2];
+    if (*length < least || *length > most || *length % width != 0)
+        return fault(TSB_LENGTH, at + 1, place);
+    if (bytes_len - at - 3 < *length)
+        return fault(TSB_ENDED, bytes_len, place);
+    return TSB_OK;
 }
 
 /* Bytes to numbers, into work space: the lent lists stay as they are until everything is judged. */
@@ -62,25 +76,29 @@ static void get_coordinates(const uint8_t *at, size_t count, int32_t *restrict z
         zs[i] = (int32_t)((uint32_t)at[4 * i] | (uint32_t)at[4 * i + 1] << 8 | (uint32_t)at[4 * i + 2] << 16 | (uint32_t)at[4 * i + 3] << 24);
 }
 
-uint32_t plain_read_record(const uint8_t *bytes, size_t bytes_len, LISTS, uint32_t *restrict degree, size_t *restrict points)
+uint32_t plain_read_record(
+    const uint8_t *bytes, size_t bytes_len, LISTS, uint32_t *restrict degree, size_t *restrict points, size_t *restrict place)
 {
-    int64_t one = field(bytes, bytes_len, 0, 1, 1, 1);
-    if (one != 1)
-        return TSB_BYTES;
-    int64_t ts = field(bytes, bytes_len, 4, 2, 2, 2 * TSB_KNOTS_MOST);
-    if (ts < 0)
-        return TSB_BYTES;
-    size_t x_at = 4 + 3 + (size_t)ts;
-    int64_t x = field(bytes, bytes_len, x_at, 3, 4, 4 * TSB_POINTS_MOST);
-    if (x < 0)
-        return TSB_BYTES;
-    size_t y_at = x_at + 3 + (size_t)x;
-    int64_t y = field(bytes, bytes_len, y_at, 4, 4, 4 * TSB_POINTS_MOST);
-    if (y < 0 || bytes_len != y_at + 3 + (size_t)y)
-        return TSB_BYTES;
+    size_t one, ts, x, y;
+    uint32_t broken = field(bytes, bytes_len, 0, 1, 1, 1, 1, &one, place);
+    if (broken != TSB_OK)
+        return broken;
+    broken = field(bytes, bytes_len, 4, 2, 2, 0, 2 * TSB_KNOTS_MOST, &ts, place);
+    if (broken != TSB_OK)
+        return broken;
+    size_t x_at = 4 + 3 + ts;
+    broken = field(bytes, bytes_len, x_at, 3, 4, 0, 4 * TSB_POINTS_MOST, &x, place);
+    if (broken != TSB_OK)
+        return broken;
+    size_t y_at = x_at + 3 + x;
+    broken = field(bytes, bytes_len, y_at, 4, 4, 0, 4 * TSB_POINTS_MOST, &y, place);
+    if (broken != TSB_OK)
+        return broken;
+    if (bytes_len != y_at + 3 + y)
+        return fault(TSB_LEFT_OVER, y_at + 3 + y, place);
     uint16_t knots[TSB_KNOTS_MOST];
     int32_t xs[TSB_POINTS_MOST], ys[TSB_POINTS_MOST];
-    size_t knots_len = (size_t)ts / 2, xs_len = (size_t)x / 4, ys_len = (size_t)y / 4;
+    size_t knots_len = ts / 2, xs_len = x / 4, ys_len = y / 4;
     for (size_t i = 0; i < knots_len; i++)
         knots[i] = (uint16_t)(bytes[7 + 2 * i] | bytes[8 + 2 * i] << 8);
     get_coordinates(bytes + x_at + 3, xs_len, xs);

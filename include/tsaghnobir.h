@@ -21,9 +21,28 @@
  *
  * THE RESULT of every function is a refusal number: 0 (TSB_OK) if the call was carried out, else the number
  * of the reason, one of the TSB_.. values below. Where several reasons apply, the call names the one that it
- * judges first; the order stands with each call. A refused call has changed nothing that was lent to it.
+ * judges first; the order stands with each call. A refused call has changed nothing that was lent to it, with
+ * one exception: a reader that is given broken bytes tells where they break, through the pointer `place`.
  * After success the first entries of each result list hold the result, the entries behind are as before,
  * and the single numbers lent by a pointer hold what is said with the call.
+ *
+ * BROKEN BYTES. A record is four fields: the degree, the knots, x and y, with the tags 1, 2, 3 and 4; in a job
+ * up to 64 clamps of tag 5 follow. A field is its tag in one byte, its length in two, low byte first, and as
+ * many bytes of contents. The length is 1 for the degree, even and at most 2056 for the knots, a multiple of 4
+ * and at most 4096 for x and for y, 0 included for these three, and 16 for a clamp. A reader goes through the bytes
+ * from the first on and judges of each field its tag, then its length, then its contents; it tells the first fault
+ * that it comes to:
+ *
+ *   TSB_ENDED       the bytes end too early                                     place: the number of bytes
+ *   TSB_TAG         a field begins with another tag than the one due there      place: that of the tag
+ *   TSB_LENGTH      both bytes of a length are there, and it is a wrong one     place: that of its first byte
+ *   TSB_LEFT_OVER   a byte stands behind a lone record or a 64th clamp          place: that of the byte
+ *
+ * Places count from 0. So bytes that end between the two of a length are TSB_ENDED, whatever the first of them
+ * is; a wrong length whose contents run out as well is TSB_LENGTH; and behind a job's record, or behind a clamp
+ * before the 64th, a byte other than 5 is TSB_TAG. `*place` is written by these four refusals and by nothing
+ * else: on success and on every other refusal it is as before. It is the one thing lent to any call here that a
+ * refusal ever alters.
  *
  * WHAT THE CALLER OWES, because no proof can see it from inside:
  *   - a pointer is valid for as many entries as its length says and aligned for its type; a pointer to a
@@ -40,8 +59,13 @@
 #include <stddef.h>
 #include <stdint.h>
 
-/* Raised whenever a call below changes: its parameters, what it does, or what it refuses. */
-#define TSB_API_VERSION 1
+/*
+ * Raised whenever a call below changes: its parameters, what it does, or what it refuses.
+ * Version 2: tsb_read_record and tsb_read_job have a last parameter `place` and split what was 16 for all broken
+ * bytes into 16, 19, 20 and 21. A caller of version 1 lends a size_t, has no more TSB_BYTES (16 is TSB_ENDED) and
+ * treats all four as it treated 16; which bytes are read, and what is read from them, has not changed.
+ */
+#define TSB_API_VERSION 2
 
 /* The limits, and places that are always enough for a result. */
 #define TSB_POINTS_MOST 1024       /* points of a curve */
@@ -71,10 +95,13 @@ enum tsb_refusal {
     TSB_NOT_REMOVABLE = 13, /* removal: no whole points within range give the old curve with the value inserted again */
     TSB_RECTANGLE = 14,     /* a rectangle's low side lies above its high side, or a side beyond +-262144 */
     TSB_ROOM = 15,          /* a result list has too few places */
-    TSB_BYTES = 16,         /* the bytes are no record, or no job */
+    TSB_ENDED = 16,         /* reading: the bytes end early */
     TSB_SPLINE_POINTS = 17, /* joining: one spline point or none, more than 342, five lists that are not equally long, a
                                parameter above 16383 or one that is not above the parameter before it */
-    TSB_JOINED_RANGE = 18   /* joining: a control point would lie beyond +-262144 */
+    TSB_JOINED_RANGE = 18,  /* joining: a control point would lie beyond +-262144 */
+    TSB_TAG = 19,           /* reading: an unexpected tag */
+    TSB_LENGTH = 20,        /* reading: a length that the field cannot have */
+    TSB_LEFT_OVER = 21      /* reading: a byte behind a lone record, or behind a job's 64th clamp */
 };
 
 /* C++ and compilers before C99 lack the word; where the compiler has its own, it is used. */
@@ -212,20 +239,22 @@ uint32_t tsb_write_record(
 /*
  * The curve whose record the bytes are: its knots, x and y go to the three lists, its degree to *degree and
  * its number of points to *points; it has *points + *degree + 1 knots. What is read is a curve.
- * Refused by 16 (all the bytes, first to last, are no record), then 1 to 7, then 15.
+ * Refused by 16, 19, 20 or 21 where the bytes, first to last, are no record: the first fault, and where it stands
+ * goes to *place. Then by 1 to 7, then 15; these leave *place as it is, and so does a success.
  */
 uint32_t tsb_read_record(
     const uint8_t *bytes, size_t bytes_len,
     uint16_t *TSB_RESTRICT out_knots, size_t out_knots_len,
     int32_t *TSB_RESTRICT out_xs, size_t out_xs_len,
     int32_t *TSB_RESTRICT out_ys, size_t out_ys_len,
-    uint32_t *TSB_RESTRICT degree, size_t *TSB_RESTRICT points);
+    uint32_t *TSB_RESTRICT degree, size_t *TSB_RESTRICT points, size_t *TSB_RESTRICT place);
 
 /*
  * A job: a curve's record and behind it up to 64 clamps, of which each is a rectangle to keep the curve clear
  * of. The curve goes where tsb_read_record puts it; low x, high x, low y, high y of each clamp go to clamps,
  * and the number of clamps to *clamp_count. clamps_len counts numbers, four for each clamp.
- * Refused by 16 (all the bytes are no job), then 1 to 7, then 14 for any of the clamps, then 15.
+ * Refused by 16, 19, 20 or 21 where the bytes, first to last, are no job: the first fault, and where it stands goes
+ * to *place. Then by 1 to 7, then 14 for any of the clamps, then 15; these leave *place as it is, and so does a success.
  */
 uint32_t tsb_read_job(
     const uint8_t *bytes, size_t bytes_len,
@@ -233,7 +262,8 @@ uint32_t tsb_read_job(
     int32_t *TSB_RESTRICT out_xs, size_t out_xs_len,
     int32_t *TSB_RESTRICT out_ys, size_t out_ys_len,
     int32_t *TSB_RESTRICT clamps, size_t clamps_len,
-    uint32_t *TSB_RESTRICT degree, size_t *TSB_RESTRICT points, size_t *TSB_RESTRICT clamp_count);
+    uint32_t *TSB_RESTRICT degree, size_t *TSB_RESTRICT points, size_t *TSB_RESTRICT clamp_count,
+    size_t *TSB_RESTRICT place);
 
 #ifdef __cplusplus
 }

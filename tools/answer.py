@@ -1,10 +1,13 @@
 """What clampcheck printed, held against the job that it was given: every line must be one that it can print on that job."""
 
+import re
+
 import refusals
 import shape
-from job_bytes import BadJob, read_job
+from job_bytes import ENDED, PLACED, BadJob, read_job
 
 ALL_CLEAR, MAY_MEET, REFUSED = "all clear", "may meet", "refused"
+REFUSAL = re.compile(rb"refused ([1-9][0-9]?)(?: at (0|[1-9][0-9]{0,5}))?\n")
 
 
 class NotUnderstood(Exception):
@@ -12,15 +15,31 @@ class NotUnderstood(Exception):
 
 
 class Answer:
-    """The number of a refusal (0 for none), the job (None where refused), and for each clamp the listed spans."""
+    """The number of a refusal (0 for none) and its place (None for none), the job (None where refused), and for each clamp the listed spans."""
 
-    def __init__(self, refusal, job=None, listed=()):
-        self.refusal, self.job, self.listed = refusal, job, list(listed)
+    def __init__(self, refusal, place=None, job=None, listed=()):
+        self.refusal, self.place, self.job, self.listed = refusal, place, job, list(listed)
 
     def word(self):
         if self.refusal:
             return REFUSED
         return MAY_MEET if any(self.listed) else ALL_CLEAR
+
+
+def can_be_told(number, place, data):
+    """Whether this number goes with this place on so many bytes: four numbers have one, 16 that behind the last byte, the others that of a byte."""
+    if number not in PLACED:
+        return number in refusals.WORDS and place is None
+    return place is not None and (place == len(data) if number == ENDED else place < len(data))
+
+
+def read_refusal(printed, data):
+    """The refusal in a line that begins as one, or NotUnderstood."""
+    found = REFUSAL.fullmatch(printed)
+    number, place = (int(found[1]), found[2] and int(found[2])) if found else (0, None)
+    if not can_be_told(number, place, data):
+        raise NotUnderstood("this is no refusal of a job of %d bytes: %r" % (len(data), printed[:60]))
+    return Answer(number, place)
 
 
 def sound_job(data):
@@ -64,9 +83,8 @@ def lines_by_clamp(lines, clamps):
 
 def read_answer(printed, data):
     """The answer in the bytes that clampcheck printed on a job's bytes, or NotUnderstood."""
-    for number in refusals.WORDS:
-        if printed == b"refused %d\n" % number:
-            return Answer(number)
+    if printed.startswith(b"refused "):
+        return read_refusal(printed, data)
     if not printed.endswith(b"\n") or not printed.isascii():
         raise NotUnderstood("what clampcheck printed is cut off or no text: %r" % printed[-60:])
     lines = printed.decode("ascii").split("\n")[:-1]
@@ -78,4 +96,4 @@ def read_answer(printed, data):
     if lines[0] != head:
         raise NotUnderstood("the line on the curve is %r and not %r" % (lines[0][:60], head))
     parts = lines_by_clamp(lines[1:], len(job.clamps))
-    return Answer(0, job, [spans_of_clamp(number, part, spans) for number, part in enumerate(parts, 1)])
+    return Answer(0, None, job, [spans_of_clamp(number, part, spans) for number, part in enumerate(parts, 1)])

@@ -43,10 +43,10 @@ def draw_answer(job, listed):
     return sheet.svg(under.y + FOOT, words.title(found))
 
 
-def draw_refusal(number, data):
+def draw_refusal(number, place, data):
     """The picture of a refused job: words alone."""
     sheet, y = Sheet(), 50
-    lines = refusals.told(number, data)
+    lines = refusals.told(number, place, data)
     for place, line in enumerate(["clampcheck refuses this job, so there is no curve to draw", *lines]):
         for part in textwrap.wrap(line, 88):
             sheet.text(legend.LEFT, y, part, 18, fill="black", font_weight="normal" if place else "bold")
@@ -58,7 +58,7 @@ def draw_refusal(number, data):
 def draw(data, printed):
     """The picture of a job's bytes and of what clampcheck printed on them."""
     found = answer.read_answer(printed, data)
-    return draw_refusal(found.refusal, data) if found.refusal else draw_answer(found.job, found.listed)
+    return draw_refusal(found.refusal, found.place, data) if found.refusal else draw_answer(found.job, found.listed)
 
 
 def main(arguments):

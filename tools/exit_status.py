@@ -27,7 +27,7 @@ def answered(name):
     found = answer.read_answer(printed, data)
     pass_on(printed)
     if found.refusal:
-        sys.stderr.write("".join(line + "\n" for line in refusals.told(found.refusal, data)))
+        sys.stderr.write("".join(line + "\n" for line in refusals.told(found.refusal, found.place, data, name or "JOB")))
     return ENDS[found.word()]
 
 

@@ -1,10 +1,11 @@
 #!/usr/bin/env python3
-"""Turns a readable description of a curve and its clamps into a job for clampcheck, and a job back into a description.
+"""Turns a readable description of a curve and its clamps into a job for clampcheck, a job back into a description, and says where a job is broken.
 
     python3 tools/job.py make sample.txt sample.job               text to job
     python3 tools/job.py make --anyway sample.txt sample.job      the same for a curve that clampcheck refuses
     python3 tools/job.py show sample.job                          job to text, on standard output
     python3 tools/job.py show sample.job sample.txt               job to text, into a file
+    python3 tools/job.py explain sample.job                       what stands at which byte, and at the first fault what was due there
 
 A description has one thing on a line; what stands behind a # is a remark:
 
@@ -23,6 +24,8 @@ import os
 import sys
 
 import description
+import explain as explaining
+import program
 import text_kind
 from description import BadText, read_text, write_text  # noqa: F401
 from job_bytes import BadJob, Job, read_job, write_job  # noqa: F401
@@ -75,6 +78,12 @@ def show(source, target=None):
         write_file(source, target, text.encode("ascii"))
 
 
+def explain(source):
+    """The fields of a job with their places, up to the first fault; of a file that is too long to be a job, no more than it takes to see that."""
+    sys.stdout.write("".join(line + "\n" for line in explaining.explained(program.read_input(source))))
+    sys.stdout.flush()
+
+
 def main(arguments):
     words = [word for word in arguments if word != "--anyway"]
     anyway = len(words) < len(arguments)
@@ -82,6 +91,8 @@ def main(arguments):
         act = lambda: make(words[1], words[2], anyway)
     elif len(words) in (2, 3) and words[0] == "show" and not anyway:
         act = lambda: show(*words[1:])
+    elif len(words) == 2 and words[0] == "explain" and not anyway:
+        act = lambda: explain(words[1])
     else:
         sys.exit(__doc__)
     try:

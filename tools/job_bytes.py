@@ -1,13 +1,41 @@
-"""The bytes of a job, as docs/SCOPE.md lays them out under "The record and the job": written, and read again."""
+"""The bytes of a job, as docs/SCOPE.md lays them out under "The record on disk": written, and read field by field to the first fault."""
 
 import struct
+from collections import namedtuple
 
 MOST = {"knots": 1028, "points": 1024, "clamps": 64}
 MOST_BYTES = 11477
+ENDED, TAG, LENGTH, LEFT_OVER = 16, 19, 20, 21
+PLACED = (ENDED, TAG, LENGTH, LEFT_OVER)
+
+# What a kind of field is called, with its verb, its tag, the form of an entry, and the least and most bytes of contents.
+Kind = namedtuple("Kind", "name begins tag form least most")
+RECORD = (
+    Kind("the degree", "begins", 1, "B", 1, 1),
+    Kind("the knots", "begin", 2, "H", 0, 2 * MOST["knots"]),
+    Kind("the x coordinates", "begin", 3, "i", 0, 4 * MOST["points"]),
+    Kind("the y coordinates", "begin", 4, "i", 0, 4 * MOST["points"]),
+)
+CLAMP = Kind("clamp %d", "begins", 5, "i", 16, 16)
+
+# A field where it stands: its kind and place, its length (None where that is missing or wrong) and the entries that are whole.
+Field = namedtuple("Field", "kind at length numbers")
 
 
 class BadJob(Exception):
-    """Bytes that are no job; the message says where and why."""
+    """Bytes that are no job: the number and the place of the first fault, and as much as stands there of its field, None for nothing."""
+
+    def __init__(self, number, place, words, begun=None):
+        super().__init__("byte %d: %s" % (place, words))
+        self.number, self.place, self.begun = number, place, begun
+
+
+class Unpaired(BadJob):
+    """A job with unequal numbers of x and y, which has no points to speak of; its bytes are sound, so there is no place."""
+
+    def __init__(self, degree, xs, ys):
+        Exception.__init__(self, "there are %d x and %d y coordinates" % (xs, ys))
+        self.number, self.place, self.begun = (2 if degree in (1, 2, 3) else 1), None, None
 
 
 class Job:
@@ -34,46 +62,83 @@ def write_job(job):
     return b"".join(parts)
 
 
-def take_field(data, at, tag, form, most=None):
-    """The numbers of the field at a place, no more than the most, and the place behind it, or BadJob."""
-    if len(data) < at + 3:
-        raise BadJob("byte %d: the job ends inside a field" % len(data))
-    if data[at] != tag:
-        raise BadJob("byte %d: tag %d where %d belongs" % (at, data[at], tag))
+def width(kind):
+    """The bytes of an entry."""
+    return struct.calcsize("<" + kind.form)
+
+
+def right_length(kind, length):
+    return kind.least <= length <= kind.most and length % width(kind) == 0
+
+
+def right_lengths(kind):
+    """The lengths that a field of this kind may have, in words."""
+    if kind.least == kind.most:
+        return str(kind.most)
+    return "%s up to %s" % ({2: "an even number", 4: "a multiple of 4"}[width(kind)], format(kind.most, ","))
+
+
+def whole_entries(data, at, kind, length):
+    """The entries of the field at a place that are there from their first byte to their last."""
+    count = min(length, len(data) - at - 3) // width(kind)
+    return list(struct.unpack_from("<%d%s" % (count, kind.form), data, at + 3))
+
+
+def take_length(data, at, kind):
+    """The length of the field at a place, whose tag is right, or BadJob."""
+    begun = Field(kind, at, None, [])
+    if len(data) == at + 1:
+        raise BadJob(ENDED, len(data), "here stands the length of %s in two bytes, found the end" % kind.name, begun)
+    if len(data) == at + 2:
+        raise BadJob(ENDED, len(data), "here stands the second byte of the length of %s, found the end" % kind.name, begun)
     length = data[at + 1] + 256 * data[at + 2]
-    count, over = divmod(length, struct.calcsize("<" + form))
-    if over:
-        raise BadJob("byte %d: a length of %d is no whole number of entries" % (at + 1, length))
-    if most is not None and count > most:
-        raise BadJob("byte %d: %d entries are more than the %d that belong there" % (at + 1, count, most))
-    if len(data) < at + 3 + length:
-        raise BadJob("byte %d: the job ends inside a field" % len(data))
-    return list(struct.unpack_from("<%d%s" % (count, form), data, at + 3)), at + 3 + length
+    if not right_length(kind, length):
+        words = "here stands the length of %s, %s, found %d" % (kind.name, right_lengths(kind), length)
+        raise BadJob(LENGTH, at + 1, words, begun)
+    return length
 
 
-def take_clamps(data, at):
-    """The clamps from a place to the end, or BadJob."""
-    clamps = []
+def take_field(data, at, kind, instead=""):
+    """The field of this kind at a place, or BadJob: its tag is judged first, then its length, then its contents."""
+    due = "here %s %s with tag %d%s" % (kind.name, kind.begins, kind.tag, instead)
+    if at == len(data):
+        raise BadJob(ENDED, at, "%s, found the end" % due)
+    if data[at] != kind.tag:
+        raise BadJob(TAG, at, "%s, found %d" % (due, data[at]))
+    length = take_length(data, at, kind)
+    taken = Field(kind, at, length, whole_entries(data, at, kind, length))
+    if behind(taken) > len(data):
+        lacking = behind(taken) - len(data)
+        words = "here the contents of %s go on, %d byte%s more, found the end" % (kind.name, lacking, "s" * (lacking > 1))
+        raise BadJob(ENDED, len(data), words, taken)
+    return taken
+
+
+def behind(taken):
+    """The place behind a field."""
+    return taken.at + 3 + taken.length
+
+
+def fields(data):
+    """The fields of a job one after the other, and BadJob where the first fault stands."""
+    at = 0
+    for kind in RECORD:
+        taken = take_field(data, at, kind)
+        yield taken
+        at = behind(taken)
+    number = 0
     while at < len(data):
-        if len(clamps) == MOST["clamps"]:
-            raise BadJob("byte %d: a job ends behind its clamp %d" % (at, len(clamps)))
-        clamp, behind = take_field(data, at, 5, "i")
-        if len(clamp) != 4:
-            raise BadJob("byte %d: a clamp has four numbers, and here are %d" % (at + 1, len(clamp)))
-        clamps.append(tuple(clamp))
-        at = behind
-    return clamps
+        if number == MOST["clamps"]:
+            raise BadJob(LEFT_OVER, at, "here the job ends, behind its clamp %d, found %d" % (number, data[at]))
+        number += 1
+        taken = take_field(data, at, CLAMP._replace(name=CLAMP.name % number), " or the job ends")
+        yield taken
+        at = behind(taken)
 
 
 def read_job(data):
     """The job in some bytes, or BadJob. Coordinates that do not pair up are a fault here too."""
-    degrees, at = take_field(data, 0, 1, "B")
-    if len(degrees) != 1:
-        raise BadJob("byte 1: the degree is one byte, and here are %d" % len(degrees))
-    knots, at = take_field(data, at, 2, "H", MOST["knots"])
-    xs, at = take_field(data, at, 3, "i", MOST["points"])
-    ys, at = take_field(data, at, 4, "i", MOST["points"])
-    clamps = take_clamps(data, at)
+    degree, knots, xs, ys, *clamps = [taken.numbers for taken in fields(data)]
     if len(xs) != len(ys):
-        raise BadJob("there are %d x and %d y coordinates" % (len(xs), len(ys)))
-    return Job(degrees[0], knots, list(zip(xs, ys)), clamps)
+        raise Unpaired(degree[0], len(xs), len(ys))
+    return Job(degree[0], knots, list(zip(xs, ys)), [tuple(clamp) for clamp in clamps])

@@ -74,11 +74,12 @@ def prove():
         raise NotTried("".join(printed[-LAST_LINES:]) + "clampcheck is not proved: rt check ended with status %d." % rt.returncode)
 
 
-def show(data):
-    """Runs clampcheck and prints what it says, a refusal in words; the status to end with."""
+def show(data, name):
+    """Runs clampcheck and prints what it says of the file of this name, a refusal in words; the status to end with."""
     printed = program.clampcheck(data)
     found = answer.read_answer(printed, data)
-    lines = refusals.told(found.refusal, data) if found.refusal else printed.decode("ascii").splitlines()
+    told = refusals.told(found.refusal, found.place, data, name) if found.refusal else []
+    lines = told or printed.decode("ascii").splitlines()
     sys.stdout.write("".join(line + "\n" for line in lines))
     sys.stdout.flush()
     return REFUSED if found.refusal else ANSWERED
@@ -93,7 +94,7 @@ def main(arguments):
         data = look(name)
         prove()
         say("clampcheck < %s" % (name if arguments else SAMPLE))
-        return show(data)
+        return show(data, name)
     except (NotTried, program.NotRun, answer.NotUnderstood) as fault:
         say(str(fault))
     except OSError as fault:

@@ -1,8 +1,9 @@
-"""The refusals that a job can meet, in words, and which of them a curve and its clamps meet first, and where.
+"""The refusals that a job can meet, in words, and which of them a job's bytes, its curve or its clamps meet first, and where.
 
 Clampcheck judges; this says the same of a description before there is a job, and says of a refused job what is wrong in it.
 """
 
+import shlex
 from collections import namedtuple
 
 import job_bytes
@@ -19,7 +20,10 @@ WORDS = {
     6: "a knot value stands too often: at an end more than degree + 1 times, inside more than degree times",
     7: "a coordinate lies beyond 262,144 hundredths of a millimetre, about 2.6 metres, from the middle",
     14: "a clamp's sides are crossed, low above high, or one of them lies beyond 262,144",
-    16: "the file is no job: cut short, too long, or something else",
+    16: "the file ends before the job does: it is cut short, or empty",
+    19: "a part of the job begins with another tag than belongs there",
+    20: "a part of the job has a length that it cannot have",
+    21: "something stands behind the 64th clamp, the last that a job can have",
 }
 
 # The number of a refusal, what is wrong, and the word and place (from 0) of the line that it concerns, or None.
@@ -105,18 +109,31 @@ def fault_of(job):
     return None
 
 
-def particulars(number, data):
-    """What is wrong in these bytes, as far as it can be said, for the refusal that clampcheck gave."""
-    if number == 16 and text_kind.is_text(data):
-        return "this is %s; python3 tools/job.py make turns a description into a job" % text_kind.kind(data)
+def judged(data):
+    """The first refusal that these bytes meet: its number, its place (None where it has none) and what is wrong; None where clampcheck takes them."""
     try:
         fault = fault_of(job_bytes.read_job(data))
     except job_bytes.BadJob as bad:
-        return str(bad) if number in (2, 16) else ""
-    return fault.words if fault and fault.number == number else ""
+        return bad.number, bad.place, str(bad)
+    return fault and (fault.number, None, fault.words)
 
 
-def told(number, data):
-    """Lines that say a refusal: what the number means, and what is wrong in these bytes."""
-    more = particulars(number, data)
-    return ["refused %d: %s" % (number, WORDS[number])] + ([more] if more else [])
+def line(number, place):
+    """What clampcheck prints on a refused job, without the newline."""
+    return "refused %d" % number if place is None else "refused %d at %d" % (number, place)
+
+
+def particulars(number, place, data, name):
+    """What is wrong in these bytes, as far as it can be said, for the refusal that clampcheck gave on the file of this name."""
+    if place is not None and text_kind.is_text(data):
+        return ["this is %s; python3 tools/job.py make turns a description into a job" % text_kind.kind(data)]
+    found = judged(data)
+    words = [found[2]] if found and found[:2] == (number, place) else []
+    if place is not None and data:
+        words.append("python3 tools/job.py explain %s shows what stands at which byte" % shlex.quote(name))
+    return words
+
+
+def told(number, place, data, name="JOB"):
+    """Lines that say a refusal: what the number means, what is wrong in these bytes, and where more is said."""
+    return ["%s: %s" % (line(number, place), WORDS[number])] + particulars(number, place, data, name)

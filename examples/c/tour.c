@@ -1,7 +1,7 @@
 /*
  * A tour of the library from C: the point on a curve, a knot inserted and removed, all knots removed that can go,
- * spline points joined, the spans that a
- * clamp asks for, a record written and read back, and some refusals.
+ * spline points joined, the spans that a clamp asks for, a record written and read back, records and jobs that are
+ * broken, with the place where they break, and some refusals.
  * Build and run: examples/c/build.sh run
  */
 #include <stddef.h>
@@ -109,6 +109,27 @@ static void print_spans(const struct curve *c, int32_t low_x, int32_t high_x, in
     printf("\n");
 }
 
+/* What a reader refused. A place is told with four numbers alone; with any other the caller's is as it was. */
+static void print_unread(uint32_t refusal, size_t place)
+{
+    if (refusal == TSB_ENDED || refusal == TSB_TAG || refusal == TSB_LENGTH || refusal == TSB_LEFT_OVER)
+        printf(" refused %u at %u\n", (unsigned)refusal, (unsigned)place);
+    else
+        printf(" refused %u\n", (unsigned)refusal);
+}
+
+static void print_record(const char *name, size_t length)
+{
+    size_t place = 0;
+    uint32_t refusal = tsb_read_record(length == 0 ? NULL : bytes, length, PLACES(result), &result.degree, &result.points, &place);
+    printf("%s:", name);
+    if (refusal == TSB_OK) {
+        printf(" degree %u", (unsigned)result.degree);
+        print_points(&result);
+    } else
+        print_unread(refusal, place);
+}
+
 static void print_written_and_read(const struct curve *c)
 {
     size_t length;
@@ -117,36 +138,52 @@ static void print_written_and_read(const struct curve *c)
         printf("record: refused %u\n", (unsigned)refusal);
         return;
     }
-    printf("record of %u bytes, read:", (unsigned)length);
-    refusal = tsb_read_record(bytes, length, PLACES(result), &result.degree, &result.points);
-    if (refusal == TSB_OK) {
-        printf(" degree %u", (unsigned)result.degree);
-        print_points(&result);
-    } else
-        printf(" refused %u\n", (unsigned)refusal);
-    refusal = tsb_read_record(bytes, length - 1, PLACES(result), &result.degree, &result.points);
-    printf("without its last byte: refused %u\n", (unsigned)refusal);
-    refusal = tsb_read_record(NULL, 0, PLACES(result), &result.degree, &result.points);
-    printf("of no bytes: refused %u\n", (unsigned)refusal);
+    printf("record of %u bytes\n", (unsigned)length);
+    print_record("read", length);
+    print_record("without its last byte", length - 1);
+    print_record("of no bytes", 0);
+    print_record("with a byte behind it", length + 1);
+    bytes[4] = 7;
+    print_record("with tag 7 in place of 2", length);
+    bytes[4] = 2;
+    bytes[5] = 15;
+    print_record("with knots of 15 bytes", length);
+    bytes[5] = 16;
+    bytes[3] = 4;
+    print_record("with degree 4", length);
 }
 
-/* Curve A's record with one clamp behind it: tag 5, length 16, and the four sides, low byte first. */
-static void print_job(const struct curve *c)
+/* Reads the first bytes as a job; where it is one, its first clamp is held against its curve. */
+static void print_job(const char *name, size_t length)
 {
-    static const uint8_t clamp[] = {5, 16, 0, 2, 0, 0, 0, 3, 0, 0, 0, 5, 0, 0, 0, 9, 0, 0, 0};
     int32_t clamps[4 * TSB_CLAMPS_MOST];
-    size_t length, count;
-    tsb_write_record(GIVEN(*c), bytes, sizeof bytes, &length);
-    for (size_t i = 0; i < sizeof clamp; i++)
-        bytes[length + i] = clamp[i];
+    size_t count, place = 0;
     uint32_t refusal = tsb_read_job(
-        bytes, length + sizeof clamp, PLACES(result), clamps, 4 * TSB_CLAMPS_MOST, &result.degree, &result.points, &count);
+        bytes, length, PLACES(result), clamps, 4 * TSB_CLAMPS_MOST, &result.degree, &result.points, &count, &place);
+    printf("%s:", name);
     if (refusal != TSB_OK) {
-        printf("job: refused %u\n", (unsigned)refusal);
+        print_unread(refusal, place);
         return;
     }
-    printf("job with %u clamp\n", (unsigned)count);
+    printf(" %u clamp\n", (unsigned)count);
     print_spans(&result, clamps[0], clamps[1], clamps[2], clamps[3]);
+}
+
+/* A curve's record with one clamp behind it: tag 5, length 16, and the four sides, low byte first. */
+static void print_jobs(const struct curve *c)
+{
+    static const uint8_t clamp[] = {5, 16, 0, 2, 0, 0, 0, 3, 0, 0, 0, 5, 0, 0, 0, 9, 0, 0, 0};
+    size_t record, length;
+    tsb_write_record(GIVEN(*c), bytes, sizeof bytes, &record);
+    for (size_t i = 0; i < sizeof clamp; i++)
+        bytes[record + i] = clamp[i];
+    length = record + sizeof clamp;
+    print_job("job", length);
+    print_job("cut between the two bytes of the clamp's length", record + 2);
+    bytes[record + 1] = 12;
+    print_job("with a clamp of 12 bytes", length);
+    bytes[record] = 6;
+    print_job("with tag 6 in place of 5 besides", length);
 }
 
 int main(void)
@@ -164,7 +201,7 @@ int main(void)
     print_spans(&a, 8, 10, 8, 9);
     print_spans(&a, 3, 2, 5, 9);
     print_written_and_read(&a);
-    print_job(&a);
+    print_jobs(&a);
 
     printf("curve B: check %u\n", (unsigned)tsb_check(GIVEN(b)));
     print_point_at(&b, 1);

@@ -1,13 +1,15 @@
 """Runs the built clampcheck on sound, damaged, short, long and slowly arriving jobs and compares what it prints with the
 second program's answer; the outcomes that matter most are written out here besides.
 
-Every truncation and every flipped byte of the worked job, each refusal that a job can reach, the longest job and one byte
-more, the longest text, input in pieces, an empty pipe, a closed and an unreadable standard input. At the end the comparison
-itself is tried: programs that print nothing, or one fixed text, must be noticed.
+Every cut and every byte of two jobs changed in three ways, a full job at its end, jobs that break in every other way, each refusal that a
+job can reach, the longest job and one byte more, the longest text, input in pieces, an empty pipe, a closed and an unreadable standard input.
+Of every job that is handed over at once, tools/job.py explain must tell the number and the place that clampcheck printed. At the end the
+comparison itself is tried: programs that print nothing, one fixed text, or every place one too far must be noticed.
 """
 
 import os
 import pathlib
+import re
 import subprocess
 import sys
 import threading
@@ -19,6 +21,8 @@ sys.dont_write_bytecode = True
 sys.path[:0] = [str(TOP / "tools"), str(TOP / "tests")]
 
 import program  # noqa: E402
+from harness.explained import disagreement  # noqa: E402
+from second_program.broken_cases import broken_jobs  # noqa: E402
 from second_program.curve import Curve  # noqa: E402
 from second_program.dice import Dice  # noqa: E402
 from second_program.job_cases import damaged_job, good_job, job_of, longest_job, with_bad_clamp  # noqa: E402
@@ -36,7 +40,12 @@ clamp 1 may meet 0..4
 clamp 2 clear
 clamp 3 may meet 0..4
 """
-NO_JOB = "refused 16\n"
+NO_BYTES = "refused 16 at 0\n"
+ONE_MORE = "refused 21 at 11477\n"
+MASKS = (0x01, 0x80, 0xFF)
+OTHER_CURVE = Curve(2, [0, 0, 0, 300, 4000, 4000, 4000], [-5, 70000, -262144, 262144], [1000, -1, 65536, 0])
+OTHER = job_of(OTHER_CURVE, [(-70000, -300, 2, 65536), (0, 0, 0, 0)])
+FULL = job_of(CURVE_A, [(9, 12, 0, 4)] * 64)
 
 
 def expected(job):
@@ -83,7 +92,7 @@ def closed(words):
 
 
 def refusals():
-    """A job for each number that a job can reach, with the number."""
+    """A job for each number that a job can reach, with the line that is right, worked out by hand."""
     spoiled = dict(
         degree=CURVE_A._replace(degree=4),
         points=Curve(3, CURVE_A.knots, [0, 0, 8], [0, 8, 8]),
@@ -98,12 +107,22 @@ def refusals():
     )
     numbers = dict(degree=1, points=2, axes=2, knots=3, falling=4, high=4, ends=5, same=5, repeats=6, far=7)
     for name, curve in spoiled.items():
-        yield numbers[name], job_of(curve, [(9, 2, 0, 0)])
-    yield 14, job_of(CURVE_A, [(2, 3, 5, 9), (3, 2, 5, 9)])
-    yield 14, job_of(CURVE_A, [(2, 3, 5, 262145)])
-    yield 16, WORKED + b"\0"
-    yield 16, job_of(CURVE_A, [(3, 2, 0, 0)]) + b"\5"
-    yield 16, job_of(CURVE_A._replace(degree=9), []) + b"\6\0\0"
+        yield "refused %d" % numbers[name], job_of(curve, [(9, 2, 0, 0)])
+    yield "refused 14", job_of(CURVE_A, [(2, 3, 5, 9), (3, 2, 5, 9)])
+    yield "refused 14", job_of(CURVE_A, [(2, 3, 5, 262145)])
+    yield "refused 19 at 4", WORKED[:4] + b"\7" + WORKED[5:]
+    yield "refused 19 at 118", WORKED + b"\0"
+    yield "refused 19 at 61", job_of(CURVE_A._replace(degree=9), []) + b"\6\0\0"
+    yield "refused 20 at 1", b"\1\0\0" + WORKED[3:]
+    yield "refused 20 at 5", WORKED[:5] + b"\x0f" + WORKED[6:]
+    yield "refused 20 at 5", WORKED[:5] + b"\x0f\0"
+    yield "refused 16 at 6", WORKED[:5] + b"\x0f"
+    yield "refused 16 at 81", job_of(CURVE_A, [(3, 2, 0, 0)]) + b"\5"
+    yield "refused 16 at 117", WORKED[:-1]
+    yield "refused 19 at 1258", FULL[:-19] + b"\0"
+    yield "refused 20 at 1259", FULL[:-18] + b"\x11" + FULL[-17:]
+    yield "refused 21 at 1277", FULL + b"\0"
+    yield "refused 21 at 1277", FULL + b"\5"
 
 
 def longest_text():
@@ -113,18 +132,27 @@ def longest_text():
     return job_of(curve, [(-1, 1, -1, 1)] * 64)
 
 
+def damaged(name, job, places):
+    """A job cut at each of the places, and with the byte there changed in three ways."""
+    for at in places:
+        yield "%s cut at %d" % (name, at), job[:at]
+        for mask in MASKS:
+            yield "byte %d of %s changed by %#x" % (at, name, mask), job[:at] + bytes([job[at] ^ mask]) + job[at + 1 :]
+
+
 def jobs():
     """Every job that is handed over at once, with a name."""
     yield "the worked job", WORKED
+    yield "another job", OTHER
+    yield "a full job", FULL
     yield "no bytes", b""
-    for at in range(len(WORKED)):
-        yield "the worked job cut at %d" % at, WORKED[:at]
-    for at in range(len(WORKED)):
-        for mask in (0x01, 0x80, 0xFF):
-            changed = WORKED[:at] + bytes([WORKED[at] ^ mask]) + WORKED[at + 1 :]
-            yield "byte %d of the worked job changed by %#x" % (at, mask), changed
-    for number, job in refusals():
-        yield "refusal %d" % number, job
+    yield from damaged("the worked job", WORKED, range(len(WORKED)))
+    yield from damaged("another job", OTHER, range(len(OTHER)))
+    yield from damaged("a full job", FULL, range(len(FULL) - 22, len(FULL)))
+    for number, place, job in list(broken_jobs(Dice(8)))[::3]:
+        yield "a job with fault %d at %d" % (number, place), job
+    for line, job in refusals():
+        yield line, job
     yield "no clamps", record_of(CURVE_A)
     several = Curve(2, [0, 0, 0, 2, 4, 6, 6, 6], [0, 4, 8, 12, 16], [0, 8, 8, 8, 0])
     yield "a clamp that meets several spans", job_of(several, [(5, 9, 6, 9), (20, 30, 0, 9), (0, 16, 8, 8)])
@@ -143,37 +171,64 @@ def jobs():
 
 
 def runs(words):
-    """Each run as a name, what runs it, and the text that is right."""
+    """Each run as a name, what runs it, the text that is right, and the job where it is handed over at once."""
     for name, job in jobs():
-        yield name, lambda job=job: whole(words, job), expected(job)
-    for number, job in refusals():
-        yield "refusal %d, written out" % number, lambda job=job: whole(words, job), "refused %d\n" % number
+        yield name, lambda job=job: whole(words, job), expected(job), job
     longest = longest_job(Dice(7))
-    yield "the worked job, written out", lambda: whole(words, WORKED), WORKED_TEXT
-    yield "the worked job byte by byte", lambda: in_pieces(words, WORKED, 1, 0.002), WORKED_TEXT
-    yield "the worked job in sevens", lambda: in_pieces(words, WORKED, 7, 0.01), WORKED_TEXT
-    yield "the longest job in pieces", lambda: in_pieces(words, longest, 997, 0.005), expected(longest)
-    yield "one byte more in pieces", lambda: in_pieces(words, longest + b"\0", 4096, 0.005), NO_JOB
-    yield "an empty pipe", lambda: in_pieces(words, b"", 1, 0), NO_JOB
-    yield "nothing, written out", lambda: whole(words, b""), NO_JOB
-    yield "one byte more, written out", lambda: whole(words, longest + b"\5"), NO_JOB
-    yield "closed standard input", lambda: closed(words), NO_JOB
-    yield "unreadable standard input", lambda: from_file(words, "/"), NO_JOB
-    yield "an empty file", lambda: from_file(words, os.devnull), NO_JOB
+    written_out = [("%s, written out" % line, job, line + "\n") for line, job in refusals()]
+    written_out += [("the worked job, written out", WORKED, WORKED_TEXT), ("nothing, written out", b"", NO_BYTES)]
+    written_out += [("one byte more, written out", longest + b"\5", ONE_MORE)]
+    for name, job, right in written_out:
+        yield name, lambda job=job: whole(words, job), right, job
+    for name, run, right in (
+        ("the worked job byte by byte", lambda: in_pieces(words, WORKED, 1, 0.002), WORKED_TEXT),
+        ("the worked job in sevens", lambda: in_pieces(words, WORKED, 7, 0.01), WORKED_TEXT),
+        ("a broken job in fives", lambda: in_pieces(words, WORKED[:42] + b"\3" + WORKED[43:], 5, 0.01), "refused 19 at 42\n"),
+        ("the longest job in pieces", lambda: in_pieces(words, longest, 997, 0.005), expected(longest)),
+        ("one byte more in pieces", lambda: in_pieces(words, longest + b"\0", 4096, 0.005), ONE_MORE),
+        ("an empty pipe", lambda: in_pieces(words, b"", 1, 0), NO_BYTES),
+        ("closed standard input", lambda: closed(words), NO_BYTES),
+        ("unreadable standard input", lambda: from_file(words, "/"), NO_BYTES),
+        ("an empty file", lambda: from_file(words, os.devnull), NO_BYTES),
+    ):
+        yield name, run, right, None
     for sample in sorted((TOP / "examples").glob("*.job")):
-        yield sample.name, lambda sample=sample: from_file(words, sample), expected(sample.read_bytes())
+        yield sample.name, lambda sample=sample: from_file(words, sample), expected(sample.read_bytes()), None
 
 
-def wrong(words, chosen):
-    """The chosen runs that print something else than they should: name, what was printed, what is right."""
+def answers_to(chosen):
     with ThreadPoolExecutor(4) as pool:
-        answers = list(pool.map(lambda run: run[1](), chosen))
-    return [(name, answer, right) for (name, _, right), answer in zip(chosen, answers) if answer != right]
+        return list(pool.map(lambda run: run[1](), chosen))
+
+
+def wrong(chosen, answers):
+    """The chosen runs that print something else than they should: name, what was printed, what is right."""
+    return [(run[0], answer, run[2]) for run, answer in zip(chosen, answers) if answer != run[2]]
+
+
+def explained_otherwise(chosen, answers):
+    """The jobs that are explained in another way than clampcheck answered."""
+    found = [(run[0], disagreement(run[3], answer)) for run, answer in zip(chosen, answers) if run[3] is not None]
+    return [one for one in found if one[1]]
+
+
+def comparison_is_blind(chosen, answers):
+    """Where a wrong program would pass: one that prints a fixed text, or every place one too far."""
+    for fixed in ("", NO_BYTES, WORKED_TEXT):
+        fake = ["sh", "-c", 'cat >/dev/null 2>&1; printf %s "$0"', fixed]
+        few = list(runs(fake))[::9]
+        if len(wrong(few, answers_to(few))) <= 10:
+            yield "a program that prints %r would pass" % fixed
+    farther = [re.sub(r" at (\d+)\n", lambda place: " at %d\n" % (int(place[1]) + 1), answer) for answer in answers]
+    moved = sum(one != other for one, other in zip(answers, farther))
+    if moved < 200 or len(wrong(chosen, farther)) < moved or not explained_otherwise(chosen, farther):
+        yield "a program that tells every place one too far would pass"
 
 
 def main():
     began = time.monotonic()
-    assert len(WORKED) == 118 and len(longest_job(Dice(7))) == LONGEST, "the jobs are not the ones that are meant"
+    assert len(WORKED) == 118 and len(OTHER) == 97 and len(FULL) == 1277, "the jobs are not the ones that are meant"
+    assert len(longest_job(Dice(7))) == LONGEST and expected(OTHER).startswith("curve degree 2 "), "the jobs are not the ones that are meant"
     of_last = [line for line in expected(longest_text()).splitlines(True) if line.startswith("clamp 64 ")]
     assert sum(map(len, of_last)) == LONGEST_OF_CLAMP, "the longest text is not the one that is meant"
     try:
@@ -181,15 +236,15 @@ def main():
     except program.NotBuilt as fault:
         sys.exit(str(fault))
     chosen = list(runs(words))
-    faults = wrong(words, chosen)
-    for name, answer, right in faults[:10]:
-        print("%s: printed %r where %r is right" % (name, answer[:200], right[:200]))
-    for fixed in ("", NO_JOB, WORKED_TEXT):
-        fake = ["sh", "-c", 'cat >/dev/null 2>&1; printf %s "$0"', fixed]
-        noticed = wrong(fake, list(runs(fake))[::9])
-        assert len(noticed) > 10, "a program that prints %r would pass" % fixed
+    answers = answers_to(chosen)
+    faults = ["%s: printed %r where %r is right" % (name, answer[:200], right[:200]) for name, answer, right in wrong(chosen, answers)]
+    faults += ["%s: %s" % one for one in explained_otherwise(chosen, answers)]
+    faults += comparison_is_blind(chosen, answers)
+    for fault in faults[:10]:
+        print(fault)
     took = time.monotonic() - began
-    print("clampcheck: %d runs, %d wrong, %.0f s" % (len(chosen), len(faults), took))
+    told = sum(" at " in answer for answer in answers)
+    print("clampcheck: %d runs, %d of them told with a place, %d faults, %.0f s" % (len(chosen), told, len(faults), took))
     if faults or took > MOST_SECONDS:
         sys.exit(1)
 

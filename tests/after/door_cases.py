@@ -1,8 +1,8 @@
 """Runs the cases of the second program and those worked by hand through the exports of libtsaghnobir.a, and compares every byte of the answers.
 
-A driver in C (tests/driver) lends each list between guard bytes and tells what is written outside a list or into an input. Everything runs twice, with
-guards that differ in every byte. Then the harness itself is tried: a changed answer, a lost one, an added byte and a spoiled guard must be told.
-Needs the crates proved (after `rt ci`).
+A driver in C (tests/driver) lends each list between guard bytes and tells what is written outside a list or into an input, and a place that is written
+where none is told. Everything runs twice, with guards that differ in every byte. Then the harness itself is tried: a changed answer, a lost one, an
+added byte and a spoiled guard must be told. Needs the crates proved (after `rt ci`).
 """
 
 import sys
@@ -16,7 +16,7 @@ sys.path.insert(0, str(TESTS))
 
 from harness import driver  # noqa: E402
 from harness.compare import first_difference  # noqa: E402
-from harness.shapes import EXPORTED, Broken, read_cases  # noqa: E402
+from harness.shapes import EXPORTED, PLACED, Broken, packed, read_cases  # noqa: E402
 from harness.worked import Unreadable, worked_cases  # noqa: E402
 from program import NotBuilt  # noqa: E402
 from second import ANSWERS, CASES, LEAST_CASES, too_few  # noqa: E402
@@ -44,17 +44,27 @@ def faults_of(word, cases):
     return ["%s guards: %s" % (word, fault) for fault in found]
 
 
-def comparison_is_blind(cases):
-    """Where a wrong answer would pass: one changed byte at either end of an answer of each call, a lost answer, an added byte."""
-    answers = [case.answer for case in cases]
+def tried_answers(cases):
+    """The index of an answer and a byte of it: both ends of one of each call, and the place in one of each reader's refusals that have one."""
     for call in EXPORTED:
         at = next(k for k, case in enumerate(cases) if case.call == call)
-        for place in (0, len(answers[at]) - 1):
-            wrong = bytearray(answers[at])
-            wrong[place] ^= 1
-            differs = first_difference(cases, b"".join(answers[:at] + [bytes(wrong)] + answers[at + 1 :]))
-            if not differs or not differs.startswith("%s (%s): " % (cases[at].name, call)):
-                yield "a changed byte %d of an answer of %s is told as %r" % (place, call, differs)
+        yield at, 0
+        yield at, len(cases[at].answer) - 1
+    for call in ("read_record", "read_job"):
+        for number in PLACED:
+            yield next(k for k, case in enumerate(cases) if (case.call, case.number) == (call, number)), len(packed("u32", number))
+
+
+def comparison_is_blind(cases):
+    """Where a wrong answer would pass: one changed byte of an answer, a lost answer, an added byte."""
+    answers = [case.answer for case in cases]
+    for at, place in tried_answers(cases):
+        call = cases[at].call
+        wrong = bytearray(answers[at])
+        wrong[place] ^= 1
+        differs = first_difference(cases, b"".join(answers[:at] + [bytes(wrong)] + answers[at + 1 :]))
+        if not differs or not differs.startswith("%s (%s): " % (cases[at].name, call)):
+            yield "a changed byte %d of an answer of %s is told as %r" % (place, call, differs)
     if not first_difference(cases, b"".join(answers[:-1])) or not first_difference(cases, b"".join(answers) + b"\0"):
         yield "a lost answer or an added byte is not told"
 

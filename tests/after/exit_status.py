@@ -12,11 +12,12 @@ sys.dont_write_bytecode = True
 sys.path[:0] = [str(pathlib.Path(__file__).resolve().parents[1])]
 
 from pretended import TOP, Folder  # noqa: E402
+from second_program.broken_cases import broken_jobs  # noqa: E402
 from second_program.curve import Curve  # noqa: E402
 from second_program.dice import Dice  # noqa: E402
 from second_program.job_cases import damaged_job, good_job, job_of, longest_job, with_bad_clamp  # noqa: E402
 from second_program.random_curves import spoiled_curve  # noqa: E402
-from second_program.record import clampcheck_text, record_of  # noqa: E402
+from second_program.record import PLACED, clampcheck_text, record_of  # noqa: E402
 
 CURVE = Curve(3, [0, 0, 0, 0, 4, 4, 4, 4], [0, 0, 8, 8], [0, 8, 8, 0])
 
@@ -35,6 +36,8 @@ def jobs():
     for k in range(1, 8):
         yield "refusal %d" % k, job_of(spoiled_curve(dice, k, byte=True), [])
     yield "refusal 14", job_of(*with_bad_clamp(dice))
+    for number, place, job in list(broken_jobs(dice))[::17]:
+        yield "refusal %d at %d" % (number, place), job
     for k in range(6):
         yield "job %d" % k, job_of(*good_job(dice, 3))
         yield "damaged job %d" % k, damaged_job(dice)
@@ -53,8 +56,8 @@ def real():
         ended = subprocess.run([TOP / "tools" / "clampcheck"], input=job, capture_output=True, timeout=60)
         assert (ended.returncode, ended.stdout.decode()) == (status, text), "%s: %r" % (name, ended)
         assert (status == 2) == ended.stderr.startswith(text.encode()[:-1] + b": "), "%s: %r" % (name, ended.stderr)
-        seen.add(status)
-    assert seen == {0, 1, 2}
+        seen |= {status, clampcheck_text(job)[0]}
+    assert seen >= {0, 1, 2, *PLACED}, "a status or a refusal is not reached: %s" % seen
     missing = subprocess.run([TOP / "tools" / "clampcheck", "/nowhere/sign.job"], capture_output=True)
     assert missing.returncode == 3 and not missing.stdout, "a missing file: %r" % missing
 

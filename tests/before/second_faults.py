@@ -1,4 +1,4 @@
-"""Plants the fault of each call in the second program: the answers of that call must then differ from tests/vectors, and a fault that would be planted
+"""Plants each fault in the second program, by turns: the answers of its call must then differ from tests/vectors, and a fault that would be planted
 nowhere must be refused."""
 
 import os
@@ -11,10 +11,19 @@ TESTS = Path(__file__).resolve().parent.parent
 sys.dont_write_bytecode = True
 sys.path.insert(0, str(TESTS))
 
+from second_program.fault import call_of, faults_of
 from second_program.vectors import CALLS
 
+FAULTS = faults_of(CALLS)
 SPOILED = "tests/vectors/answers differs from what is made anew"
-NOWHERE = (("insert", ()), ("", ()), ("check", ("compact",)), ("Check", ("check",)))
+NOWHERE = (
+    ("insert", ()),
+    ("", ()),
+    ("check", ("compact",)),
+    ("Check", ("check",)),
+    ("read_record:left_over", ()),
+    ("read_job:left_over", ("read_record",)),
+)
 
 
 def compare(fault, calls):
@@ -27,24 +36,24 @@ def compare(fault, calls):
     )
 
 
-def noticed(call):
+def noticed(fault):
     """Whether the comparison fails for the answers, and for them alone (or for too few of a refusal because of them)."""
-    run = compare(call, [call])
+    run = compare(fault, [call_of(fault)])
     lines = run.stderr.splitlines()
     return run.returncode == 1 and SPOILED in lines and not any("cases differs" in line for line in lines)
 
 
 def refused(fault, calls):
     run = compare(fault, calls)
-    return run.returncode == 2 and run.stderr.startswith("SECOND_FAULT=%s: no such call" % fault)
+    return run.returncode == 2 and run.stderr.startswith("SECOND_FAULT=%s: no such fault" % fault)
 
 
 with ThreadPoolExecutor(2) as pool:
-    missed = [call for call, told in zip(CALLS, pool.map(noticed, CALLS)) if not told]
+    missed = [fault for fault, told in zip(FAULTS, pool.map(noticed, FAULTS)) if not told]
 passed = [fault for fault, calls in NOWHERE if not refused(fault, calls)]
-print("planted faults noticed: %d of %d; refused: %d of %d" % (len(CALLS) - len(missed), len(CALLS), len(NOWHERE) - len(passed), len(NOWHERE)))
-for call in missed:
-    print("the planted fault of %s was not noticed" % call, file=sys.stderr)
+print("planted faults noticed: %d of %d; refused: %d of %d" % (len(FAULTS) - len(missed), len(FAULTS), len(NOWHERE) - len(passed), len(NOWHERE)))
+for fault in missed:
+    print("the planted fault %s was not noticed" % fault, file=sys.stderr)
 for fault in passed:
     print("SECOND_FAULT=%s was not refused" % fault, file=sys.stderr)
 sys.exit(1 if missed or passed else 0)

@@ -14,6 +14,7 @@ from harness.compare import difference
 from harness.shapes import EXPORTED, SHAPES, Reader
 from harness.worked import Unreadable, worked_cases
 from second_program import vectors
+from second_program.broken_cases import broken_jobs, broken_records
 from second_program.clamp_cases import random_fraction
 from second_program.curve import Curve, basis, check, domain, exact_point, point_at, span_of
 from second_program.dice import Dice
@@ -24,10 +25,12 @@ from second_program.join_cases import spline_points
 from second_program.joining import join
 from second_program.knots import compact, insert_knot, polygon_with, remove_knot
 from second_program.random_curves import random_curve
-from second_program.record import clampcheck_text, read_job, read_record, record_of
+from second_program.record import Fault, clampcheck_text, read_job, read_record, record_of, take_job, take_lone_record
 from second_program.remove_cases import SMOOTH, smooth_joined
 from second_program.spans import list_spans_met
 
+EMPTIEST = bytes([1, 1, 0, 3, 2, 0, 0, 3, 0, 0, 4, 0, 0])  # a record without entries
+LONGEST_TRIED = 260  # bytes that a field of a tried record or job lacks at most
 CLAMPS = [(2, 3, 5, 9), (9, 12, 0, 4), (8, 10, 8, 9)]
 TEXT = "curve degree 3 points 4 spans 1\nclamp 1 may meet 0..4\nclamp 2 clear\nclamp 3 may meet 0..4\n"
 
@@ -85,9 +88,9 @@ class WorkedByHand(unittest.TestCase):
 
     def test_jobs(self):
         self.assertEqual(clampcheck_text(job_of(WORKED_A, CLAMPS)), (0, TEXT))
-        self.assertEqual(clampcheck_text(b""), (16, "refused 16\n"))
+        self.assertEqual(clampcheck_text(b""), (16, "refused 16 at 0\n"))
         self.assertEqual(clampcheck_text(job_of(WORKED_A, []))[1], TEXT[:32])
-        self.assertEqual(read_job(job_of(WORKED_A, CLAMPS), (8, 4, 4, 12)), (0, WORKED_A, CLAMPS))
+        self.assertEqual(read_job(job_of(WORKED_A, CLAMPS), (8, 4, 4, 12)), (0, None, WORKED_A, CLAMPS))
         self.assertEqual(read_job(job_of(WORKED_A, CLAMPS), (8, 4, 4, 11))[0], 15)
         self.assertEqual([list_spans_met(WORKED_A, clamp, (1, 1))[1] for clamp in CLAMPS], [[(0, 4)], [], [(0, 4)]])
 
@@ -146,9 +149,37 @@ class WorkedFile(unittest.TestCase):
             ("5x_", "0..5/4"),
             (", y 3x_", ""),
             ("one\n", "curve A\n"),
+            ("refused 9", "refused 9 at 3"),
         ):
             with self.subTest(wrong), self.assertRaises(Unreadable):
                 worked_cases(sound.replace(right, wrong))
+
+    def test_places_are_told_with_four_numbers_alone(self):
+        sound = "one\n    read_job bytes 2x(1 2x0), places 1 0 0 0\n    = refused 20 at 1, knots _, x, y, sides\n"
+        self.assertEqual(len(worked_cases(sound)), 1)
+        for wrong in ("refused 20", "refused 7 at 1", "refused 20, place 1", "refused 20 at", "refused 20 at -1", "refused 20 at 1 2"):
+            with self.subTest(wrong), self.assertRaises(Unreadable):
+                worked_cases(sound.replace("refused 20 at 1", wrong))
+
+
+def fault_of(take, data):
+    """Number and place, None for none."""
+    try:
+        take(data)
+    except Fault as fault:
+        return fault.number, fault.place
+    return None
+
+
+def completes(take, front):
+    """Whether some zeros and the end of the emptiest record, or of a clamp, make the bytes a record, or a job; where any bytes do, some of these do."""
+    ends = [EMPTIEST[at:] for at in range(len(EMPTIEST) + 1)] + [bytes([16]) + bytes(17)]
+    return any(fault_of(take, front + bytes(zeros) + end) is None for zeros in range(LONGEST_TRIED) for end in ends)
+
+
+def ends_in_length(take, data):
+    """Whether the bytes end between the two bytes of a length: a field begins two bytes before their end, so that 255 would be a wrong tag there."""
+    return fault_of(take, data[:-2] + b"\xff") == (19, len(data) - 2)
 
 
 class Laws(unittest.TestCase):
@@ -186,7 +217,27 @@ class Laws(unittest.TestCase):
     def test_records_come_back(self):
         for _ in range(40):
             curve = random_curve(self.dice)
-            self.assertEqual(read_record(record_of(curve), WIDE), (0, curve))
+            self.assertEqual(read_record(record_of(curve), WIDE), (0, None, curve))
+
+    def test_a_fault_is_the_leftmost(self):
+        """What stands in front of a place can be completed, and with what stands there it cannot: found by a search, not by reading on."""
+        for take, broken in ((take_lone_record, broken_records), (take_job, broken_jobs)):
+            tried = [one for one in broken(self.dice) if len(one[2]) < 200]
+            for number, place, data in tried[:: len(tried) // 40]:
+                with self.subTest(data=data.hex()):
+                    self.assertEqual(fault_of(take, data), (number, place))
+                    judged = {16: 0, 19: 1, 20: 2, 21: 1}[number]
+                    between = number == 16 and ends_in_length(take, data)
+                    self.assertTrue(between or completes(take, data[:place]))
+                    self.assertFalse(judged and completes(take, data[: place + judged]))
+                    self.assertTrue(place < len(data) if judged else place == len(data))
+
+    def test_no_fault_means_a_record(self):
+        for take, broken, again in ((take_lone_record, broken_records, record_of), (take_job, broken_jobs, lambda taken: job_of(*taken))):
+            for _, _, data in broken(self.dice):
+                for at in range(0, len(data), 1 + len(data) // 20):
+                    if fault_of(take, data[:at]) is None:
+                        self.assertEqual(again(take(data[:at])), data[:at])
 
     def test_removal_is_what_a_search_finds(self):
         reach, found = 8, 0

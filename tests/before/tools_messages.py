@@ -1,6 +1,6 @@
-"""tools/job.py says what is wrong with a description, in words and with its line, and never ends in a traceback.
+"""tools/job.py says what is wrong with a description, in words and with its line, and what is wrong with a job, with its byte; it never ends in a traceback.
 
-What it says of a wrong curve is what the second program says of its job; the words are those of README.md.
+What it says of a wrong curve, and of broken bytes, is what the second program says of the job; the words are those of README.md.
 """
 
 import pathlib
@@ -13,11 +13,15 @@ sys.path[:0] = [str(pathlib.Path(__file__).resolve().parents[1])]
 
 from pretended import TOP, in_folder, run_parts  # noqa: E402
 import description  # noqa: E402
+import explain  # noqa: E402
 import refusals  # noqa: E402
 import text_kind  # noqa: E402
-from job_bytes import BadJob, Job, read_job, write_job  # noqa: E402
+from harness.explained import disagreement  # noqa: E402
+from job_bytes import PLACED, BadJob, Job, read_job, write_job  # noqa: E402
+from second_program.broken_cases import broken_jobs  # noqa: E402
+from second_program.curve import Curve  # noqa: E402
 from second_program.dice import Dice  # noqa: E402
-from second_program.job_cases import damaged_job, good_job, job_of, with_bad_clamp  # noqa: E402
+from second_program.job_cases import damaged_job, good_job, job_of, longest_job, with_bad_clamp  # noqa: E402
 from second_program.random_curves import spoiled_curve  # noqa: E402
 from second_program.record import clampcheck_text  # noqa: E402
 
@@ -85,7 +89,7 @@ def messages():
         if number:
             assert clampcheck_text(write_job(description.read_text(text)))[0] == number, "the second program says another number"
             assert "refused %d" % number in found[1]
-    assert {number for _, number, _ in SAID} == {None, *refusals.WORDS} - {16}, "a refusal is not tried"
+    assert {number for _, number, _ in SAID} == {None, *refusals.WORDS} - {*PLACED}, "a refusal is not tried"
     assert said(SOUND) == (None, None) and said(SOUND + "clamp 0 0 -262144 262144\n") == (None, None)
     assert said("\ufeff" + SOUND)[0] is None and description.text_of(("\ufeff" + SOUND).encode()) == SOUND
     assert said(SOUND.replace("\n", "\r\n")) == said(SOUND.replace("\n", "\r")) == (None, None), "line ends"
@@ -99,34 +103,137 @@ def messages():
 
 
 def judged():
-    """On sound and spoiled jobs, the second program's number."""
+    """On sound, spoiled and damaged jobs, the second program's number and place, and words for each."""
     dice, seen = Dice(4711), set()
     for k in range(400):
         curve, clamps = good_job(dice, 4) if k % 4 else with_bad_clamp(dice)
         if k % 3 == 0:
             curve = spoiled_curve(dice, 1 + k // 3 % 7, byte=True)
-        data = damaged_job(dice) if k % 11 == 0 else job_of(curve, clamps)
-        number, unpaired = clampcheck_text(data)[0], False
+        data = damaged_job(dice) if k % 5 == 0 else job_of(curve, clamps)
+        number, text = clampcheck_text(data)
         seen.add(number)
-        try:
-            fault = refusals.fault_of(read_job(data))
-            assert (fault.number if fault else 0) == number, "%r: %r where %d is right" % (data[:60], fault, number)
-        except BadJob as bad:
-            unpaired = " x and " in str(bad)
-            assert number in ((1, 2) if unpaired else (16,)), "%r: %s where %d is right" % (data[:60], bad, number)
-        told = refusals.told(number, data) if number else []
-        assert not number or told[0] == "refused %d: %s" % (number, refusals.WORDS[number])
-        assert not number or len(told) == 2 or unpaired, "refusal %d comes without particulars" % number
+        found = refusals.judged(data)
+        assert (refusals.line(*found[:2]) + "\n" if found else "") == (text if number else ""), "%r: %r where %r is right" % (data[:60], found, text)
+        if number:
+            told = refusals.told(*found[:2], data, "a job")
+            assert told[:2] == ["%s: %s" % (text[:-1], refusals.WORDS[number]), found[2]], told
+            assert told[2:] == ["python3 tools/job.py explain 'a job' shows what stands at which byte"] * (number in PLACED), told
     assert seen == {0, *refusals.WORDS}, "a refusal is not reached: %s" % seen
+    other = refusals.told(19, 3, b"\1\1\0\3\7")
+    assert len(other) == 2 and "explain JOB" in other[1], "another place than clampcheck's is told: %s" % other
+    for degree, number in ((3, 2), (4, 1)):
+        unpaired = job_of(Curve(degree, [0] * 4 + [4] * 4, [0, 0, 8, 8], [0, 8, 8]), [])
+        assert refusals.judged(unpaired) == (number, None, "there are 4 x and 3 y coordinates")
+        assert clampcheck_text(unpaired)[0] == number
+
+
+WORKED = job_of(Curve(3, [0] * 4 + [4] * 4, [0, 0, 8, 8], [0, 8, 8, 0]), [(2, 3, 5, 9), (9, 12, 0, 4)])
+WORKED_LINES = """byte 0: tag 1, length 1: the degree
+    byte 3: 3
+byte 4: tag 2, length 16: the knots, 8 of them
+    byte 7: 0 0 0 0 4 4 4 4
+byte 23: tag 3, length 16: the x coordinates, 4 of them
+    byte 26: 0 0 8 8
+byte 42: tag 4, length 16: the y coordinates, 4 of them
+    byte 45: 0 8 8 0
+byte 61: tag 5, length 16: clamp 1
+    byte 64: low x 2, high x 3, low y 5, high y 9
+byte 80: tag 5, length 16: clamp 2
+    byte 83: low x 9, high x 12, low y 0, high y 4
+byte 99: here the job ends: degree 3, 8 knots, 4 points, 2 clamps
+clampcheck takes this job
+""".splitlines()
+
+# Bytes, how many lines of the worked job stand in front, the lines on the fault, and what clampcheck says.
+EXPLAINED = [
+    (b"", 0, ["byte 0: here the degree begins with tag 1, found the end"], "refused 16 at 0"),
+    (WORKED[:4] + b"\7" + WORKED[5:], 2, ["byte 4: here the knots begin with tag 2, found 7"], "refused 19 at 4"),
+    (
+        WORKED[:5] + b"\x11" + WORKED[6:],
+        2,
+        ["byte 4: tag 2: the knots", "byte 5: here stands the length of the knots, an even number up to 2,056, found 17"],
+        "refused 20 at 5",
+    ),
+    (WORKED[:5], 2, ["byte 4: tag 2: the knots", "byte 5: here stands the length of the knots in two bytes, found the end"], "refused 16 at 5"),
+    (
+        WORKED[:6],
+        2,
+        ["byte 4: tag 2: the knots", "byte 6: here stands the second byte of the length of the knots, found the end"],
+        "refused 16 at 6",
+    ),
+    (
+        WORKED[:38],
+        4,
+        [
+            "byte 23: tag 3, length 16: the x coordinates, 4 of them",
+            "    byte 26: 0 0 8",
+            "byte 38: here the contents of the x coordinates go on, 4 bytes more, found the end",
+        ],
+        "refused 16 at 38",
+    ),
+    (
+        WORKED[:75],
+        8,
+        [
+            "byte 61: tag 5, length 16: clamp 1",
+            "    byte 64: low x 2, high x 3",
+            "byte 75: here the contents of clamp 1 go on, 5 bytes more, found the end",
+        ],
+        "refused 16 at 75",
+    ),
+    (WORKED + b"\6", 12, ["byte 99: here clamp 3 begins with tag 5 or the job ends, found 6"], "refused 19 at 99"),
+    (
+        WORKED[:81] + b"\x0c" + WORKED[82:],
+        10,
+        ["byte 80: tag 5: clamp 2", "byte 81: here stands the length of clamp 2, 16, found 12"],
+        "refused 20 at 81",
+    ),
+]
+
+
+def damaged_jobs():
+    """Cuts and changed bytes of a job, jobs that break in every way, and the longest job with something behind it."""
+    for at in range(len(WORKED)):
+        yield WORKED[:at]
+        yield from (WORKED[:at] + bytes([WORKED[at] ^ mask]) + WORKED[at + 1 :] for mask in (1, 6, 128, 255))
+    yield from (data for _, _, data in broken_jobs(Dice(15)))
+    longest = longest_job(Dice(7))
+    yield from (longest, longest + b"\0", longest + bytes(100), longest[:-1])
+
+
+def explained():
+    """Whole explanations worked out by hand, and number and place of every damaged job."""
+    assert explain.explained(WORKED) == WORKED_LINES, explain.explained(WORKED)
+    for data, kept, lines, says in EXPLAINED:
+        number = int(says.split()[1])
+        right = WORKED_LINES[:kept] + lines + ["clampcheck would say: %s: %s" % (says, refusals.WORDS[number])]
+        assert explain.explained(data) == right, "%r is explained as %r" % (data, explain.explained(data))
+        assert clampcheck_text(data)[1] == says + "\n", "the second program says something else"
+    behind = job_of(Curve(3, [], [], []), [(0, 1, 0, 1)] * 64) + b"\5\x10"
+    assert explain.explained(behind)[-2:] == [
+        "byte 1229: here the job ends, behind its clamp 64, found 5",
+        "clampcheck would say: refused 21 at 1229: " + refusals.WORDS[21],
+    ]
+    long = explain.explained(job_of(Curve(1, [0, 0, 1, 2, 3, 4, 5, 6, 7, 7], [5] * 8, [-6] * 8), []))
+    assert long[2:5] == ["byte 4: tag 2, length 20: the knots, 10 of them", "    byte 7: 0 0 1 2 3 4 5 6", "    byte 23: 7 7"], long
+    far = explain.explained(job_of(Curve(1, [0, 0, 9, 9], [0, 262145], [0, 5]), []))
+    assert far[-2] == "clampcheck would say: refused 7: " + refusals.WORDS[7] and far[-1].startswith("point 2 has x 262145"), far
+    assert explain.explained(b"degree 3\n")[-1] == "this is UTF-8 text; python3 tools/job.py make turns a description into a job"
+    for data in damaged_jobs():
+        differs = disagreement(data, clampcheck_text(data)[1])
+        assert not differs, "%r is %s" % (data[:60], differs)
 
 
 def readme():
-    rows = re.findall(r"^\| (\d+) \| (.*) \|$", (TOP / "README.md").read_text(), re.M)
+    text = (TOP / "README.md").read_text()
+    rows = re.findall(r"^\| (\d+) \| (.*) \|$", text, re.M)
     assert {int(number): words for number, words in rows} == refusals.WORDS, "README.md tells the refusals in other words"
+    shown = "".join("    %s\n" % line for line in explain.explained(WORKED[:4] + b"\7" + WORKED[5:]))
+    assert shown in text, "README.md shows another explanation"
 
 
 def nonsense():
-    """Random bytes and random words: BadText, BadJob or an answer, nothing else."""
+    """Random bytes and random words: BadText, BadJob or an answer, nothing else; an explanation of any bytes."""
     dice = random.Random(5)
     words = ["degree", "knots", "point", "clamp", "0", "-1", "9" * 30, "0.5", "#", "\n", "\n", "\0", "\u2028", "٣", "1_0", "é", "-", "+"]
     for k in range(3000):
@@ -134,7 +241,7 @@ def nonsense():
             data = bytes(dice.choices(range(256), k=dice.randint(0, 40)))
         else:
             data = " ".join(dice.choices(words, k=dice.randint(0, 30))).encode(dice.choice(("utf-8", "utf-16", "utf-16-le")))
-        for read in (lambda: said(description.text_of(data)), lambda: read_job(data), lambda: text_kind.kind(data)):
+        for read in (lambda: said(description.text_of(data)), lambda: read_job(data), lambda: explain.explained(data), lambda: text_kind.kind(data)):
             try:
                 read()
             except (description.BadText, BadJob):
@@ -161,16 +268,20 @@ def commands(folder):
     job = out.read_bytes()
     assert run("show", out, out).returncode == 1 and out.read_bytes() == job, "the job is gone"
     assert b"this is UTF-8 text, not a job" in run("show", good).stderr
-    wrong = [("make", "none", out), ("make", good, "tools"), ("make", "/dev/zero", out), ("show", "none"), ("show", "tools"), ("show", bad)]
+    ended = run("explain", good)
+    assert ended.returncode == 0 and ended.stdout.startswith(b"byte 0: here the degree begins with tag 1, found 100\n"), ended
+    assert run("explain", "/dev/zero").stdout.startswith(b"byte 0: here the degree begins with tag 1, found 0\n"), "a file without end"
+    wrong = [("explain", "none"), ("explain", "tools"), ("make", "none", out), ("make", good, "tools"), ("make", "/dev/zero", out), ("show", "none"), ("show", "tools"), ("show", bad)]
     for words in wrong:
         ended = folder.run("sh", "-c", 'ulimit -v 1000000; exec python3 tools/job.py "$@"', "sh", *words)
         assert ended.returncode == 1 and ended.stderr.count(b"\n") == 1, "%s: %r" % (words, ended.stderr)
-    for words in ((), ("make",), ("make", good), ("show",), ("show", "--anyway", out), ("draw", good, out)):
+    for words in ((), ("make",), ("make", good), ("show",), ("show", "--anyway", out), ("draw", good, out), ("explain",), ("explain", out, bad)):
         ended = run(*words)
         assert ended.returncode == 1 and b"python3 tools/job.py make" in ended.stderr, "%s: %r" % (words, ended.stderr)
     ended = folder.run("sh", "-c", "python3 tools/job.py show out.job >/dev/full")
     assert ended.returncode and b"No space left" in ended.stderr and b"Traceback" not in ended.stderr, "a full disk: %r" % ended.stderr
 
 
-DONE = "tools/job.py: %d messages, %d kinds of bytes, 400 jobs judged, 3,000 pieces of nonsense, 18 commands"
-run_parts(DONE % (len(SAID), len(NAMED)), messages, judged, readme, nonsense, commands)
+DONE = "tools/job.py: %d messages, %d kinds of bytes, 400 jobs judged, %d explained, 3,000 pieces of nonsense, 24 commands"
+EXPLANATIONS = len(EXPLAINED) + len(list(damaged_jobs()))
+run_parts(DONE % (len(SAID), len(NAMED), EXPLANATIONS), messages, judged, explained, readme, nonsense, commands)

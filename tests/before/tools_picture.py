@@ -212,10 +212,13 @@ def odd():
 
 def refused():
     """Every refusal gives a picture with its words."""
+    broken = {16: 4, 19: 0, 20: 1, 21: 3}
     for number in refusals.WORDS:
-        drawn = xml.fromstring(draw.draw(b"\x01\x01\x00\x05", b"refused %d\n" % number))
+        line = refusals.line(number, broken.get(number))
+        drawn = xml.fromstring(draw.draw(b"\x01\x01\x00\x05", line.encode() + b"\n"))
         said = " ".join(texts(drawn))
-        assert "refused %d: %s" % (number, refusals.WORDS[number]) in said, "refusal %d is told as %r" % (number, said)
+        assert "%s: %s" % (line, refusals.WORDS[number]) in said, "refusal %d is told as %r" % (number, said)
+        assert ("job.py explain" in said) == (number in broken), "refusal %d: %r" % (number, said)
 
 
 @in_folder

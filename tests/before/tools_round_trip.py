@@ -38,17 +38,25 @@ BAD = [
     (SOUND + "point 0 0\n" * 1023, "line 1027: 1025 points are more than the 1024"),
     (SOUND + "knots 1 1 1 1\n" * 257, "line 261: 1032 knots are more than the 1028"),
 ]
+HEAD = b"\x01\x01\x00\x03"
+HOLLOW = HEAD + b"\x02\x00\x00\x03\x00\x00\x04\x00\x00"
 BAD_JOBS = [
-    (b"", "byte 0: the job ends inside a field"),
-    (b"\x02\x01\x00\x03", "byte 0: tag 2 where 1 belongs"),
-    (b"\x01\x02\x00\x03\x03", "byte 1: the degree is one byte"),
-    (b"\x01\x01\x00\x03\x02\x01\x00\x07", "byte 5: a length of 1 is no whole number"),
-    (b"\x01\x01\x00\x03\x02\x02\x00\x07", "byte 8: the job ends inside a field"),
-    (b"\x01\x01\x00\x03\x02\x0a\x08" + bytes(2058), "byte 5: 1029 entries are more than the 1028"),
-    (b"\x01\x01\x00\x03\x02\x00\x00\x03\x04\x10" + bytes(4100), "byte 8: 1025 entries are more than the 1024"),
-    (b"\x01\x01\x00\x03\x02\x00\x00\x03\x04\x00" + bytes(4) + b"\x04\x00\x00", "there are 1 x and 0 y"),
-    (b"\x01\x01\x00\x03\x02\x00\x00\x03\x00\x00\x04\x00\x00\x05\x0c\x00" + bytes(12), "byte 14: a clamp has four numbers"),
-    (jobs.write_job(jobs.Job(3, [], [], [(0, 0, 0, 0)] * 65)), "byte 1229: a job ends behind its clamp 64"),
+    (b"", "byte 0: here the degree begins with tag 1, found the end"),
+    (b"\x02\x01\x00\x03", "byte 0: here the degree begins with tag 1, found 2"),
+    (b"\x01", "byte 1: here stands the length of the degree in two bytes, found the end"),
+    (b"\x01\x02", "byte 2: here stands the second byte of the length of the degree, found the end"),
+    (b"\x01\x02\x00\x03\x03", "byte 1: here stands the length of the degree, 1, found 2"),
+    (b"\x01\x01\x00", "byte 3: here the contents of the degree go on, 1 byte more, found the end"),
+    (HEAD + b"\x07", "byte 4: here the knots begin with tag 2, found 7"),
+    (HEAD + b"\x02\x01\x00\x07", "byte 5: here stands the length of the knots, an even number up to 2,056, found 1"),
+    (HEAD + b"\x02\x02\x00\x07", "byte 8: here the contents of the knots go on, 1 byte more, found the end"),
+    (HEAD + b"\x02\x0a\x08" + bytes(2058), "byte 5: here stands the length of the knots, an even number up to 2,056, found 2058"),
+    (HEAD + b"\x02\x00\x00\x03\x04\x10" + bytes(4100), "byte 8: here stands the length of the x coordinates, a multiple of 4 up to 4,096, found 4100"),
+    (HEAD + b"\x02\x00\x00\x03\x00\x00\x04\x06\x00", "byte 11: here stands the length of the y coordinates, a multiple of 4 up to 4,096, found 6"),
+    (HEAD + b"\x02\x00\x00\x03\x04\x00" + bytes(4) + b"\x04\x00\x00", "there are 1 x and 0 y"),
+    (HOLLOW + b"\x05\x0c\x00" + bytes(12), "byte 14: here stands the length of clamp 1, 16, found 12"),
+    (HOLLOW + b"\x04", "byte 13: here clamp 1 begins with tag 5 or the job ends, found 4"),
+    (jobs.write_job(jobs.Job(3, [], [], [(0, 0, 0, 0)] * 65)), "byte 1229: here the job ends, behind its clamp 64, found 5"),
 ]
 
 
@@ -115,6 +123,8 @@ def commands():
         ended = run("make", out, back)
         assert ended.returncode == 1 and b"line 1: 'x' is no whole number" in ended.stderr, "a bad text is not told of"
         assert run("make", pathlib.Path(folder, "none"), back).returncode == 1
+        shown = run("explain", sample.with_suffix(".job"))
+        assert shown.returncode == 0 and shown.stdout.decode().endswith("4 points, 3 clamps\nclampcheck takes this job\n"), shown
 
 
 round_trips()

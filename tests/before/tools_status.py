@@ -18,6 +18,10 @@ CLEAR_TEXT = b"curve degree 3 points 4 spans 1\nclamp 1 clear\nclamp 2 clear\n"
 MET_TEXT = b"curve degree 3 points 4 spans 1\nclamp 1 may meet 0..4\nclamp 2 clear\n"
 BARE = write_job(Job(1, [0, 0, 1, 1], [(0, 0), (5, 5)], []))
 BARE_TEXT = b"curve degree 1 points 2 spans 1\n"
+BROKEN_WORDS = """refused 19 at 4: a part of the job begins with another tag than belongs there
+byte 4: here the knots begin with tag 2, found 7
+python3 tools/job.py explain 'my broken.job' shows what stands at which byte
+"""
 
 
 def prints(text):
@@ -32,6 +36,12 @@ PRETENDED = [
     (prints(MET_TEXT), CLEAR, 1),
     ("printf 'refused 14\\n'", CLEAR, 2),
     ("printf 'refused 8\\n'", CLEAR, 3),
+    ("printf 'refused 19 at 4\\n'", CLEAR, 2),
+    ("printf 'refused 16 at 99\\n'", CLEAR, 2),
+    ("printf 'refused 16\\n'", CLEAR, 3),
+    ("printf 'refused 14 at 4\\n'", CLEAR, 3),
+    ("printf 'refused 19 at 99\\n'", CLEAR, 3),
+    ("printf 'refused 16 at 98\\n'", CLEAR, 3),
     ("printf 'refused 14\\nrefused 14\\n'", CLEAR, 3),
     ("true", CLEAR, 3),
     ("printf 'curve degree 3 points 4 sp'", CLEAR, 3),
@@ -86,6 +96,23 @@ def texts():
     assert sorted(exit_status.ENDS.values()) == [10, 11, 12]
 
 
+def refusals():
+    """A refusal is understood with a place where its number has one, and with no other place than one of the job."""
+    for number in range(31):
+        for place in (None, 0, 4, len(CLEAR) - 1, len(CLEAR), len(CLEAR) + 1):
+            text = b"refused %d" % number + (b"" if place is None else b" at %d" % place) + b"\n"
+            if number in (1, 2, 3, 4, 5, 6, 7, 14):
+                right = place is None
+            else:
+                right = place is not None and (place == len(CLEAR) if number == 16 else number in (19, 20, 21) and place < len(CLEAR))
+            assert (word(text, CLEAR) == answer.REFUSED) == right, "%r is %s" % (text, word(text, CLEAR))
+            assert not right or (answer.read_answer(text, CLEAR).refusal, answer.read_answer(text, CLEAR).place) == (number, place)
+    plain = {b"refused %d\n" % number for number in (1, 2, 3, 4, 5, 6, 7, 14)}
+    placed = {b"refused %d at %d\n" % (number, place) for number in (16, 19, 20, 21) for place in range(len(CLEAR) + 1)}
+    for other in (*changed(b"refused 19 at 4\n"), *changed(b"refused 16 at 99\n"), b"refused 19 at  4\n", b"refused 19 at -4\n"):
+        assert other in plain | placed or word(other, CLEAR) is None, "%r counts as a refusal" % other
+
+
 @in_folder
 def programs(folder):
     """As a process: the status, and that a text which is no answer is not passed on."""
@@ -96,6 +123,12 @@ def programs(folder):
         assert bool(ended.stdout) == (right != 3), "%s: printed %r" % (text, ended.stdout)
         assert bool(ended.stderr) == (right > 1), "%s: said %r" % (text, ended.stderr)
         assert b"Traceback" not in ended.stderr, ended.stderr.decode()
+    broken = folder.top / "my broken.job"
+    broken.write_bytes(CLEAR[:4] + b"\7" + CLEAR[5:])
+    folder.pretend_program("cat >/dev/null; printf 'refused 19 at 4\\n'")
+    ended = folder.run("tools/clampcheck", broken.name)
+    assert (ended.returncode, ended.stdout) == (2, b"refused 19 at 4\n"), ended
+    assert ended.stderr.decode() == BROKEN_WORDS, ended.stderr.decode()
 
 
 @in_folder
@@ -131,4 +164,4 @@ def surroundings(folder):
     assert folder.run("tools/clampcheck", clear).returncode == 3, "no Python"
 
 
-run_parts("tools/clampcheck: changed texts, %d pretended programs, 10 surroundings" % len(PRETENDED), texts, programs, surroundings)
+run_parts("tools/clampcheck: changed texts, refusals with places, %d pretended programs, 10 surroundings" % len(PRETENDED), texts, refusals, programs, surroundings)

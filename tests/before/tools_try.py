@@ -24,6 +24,9 @@ clamp 3 may meet 10..20
 clamp 4 clear
 clamp 5 may meet 80..90
 """
+CUT = "byte 235: here the contents of clamp 5 go on, 1 byte more, found the end\n"
+TAGGED = "byte 4: here the knots begin with tag 2, found 7\n"
+MORE = "python3 tools/job.py explain cut.job shows what stands at which byte\n"
 
 
 @in_folder
@@ -84,16 +87,19 @@ def at_once(folder):
 @in_folder
 def refusal(folder):
     """A refusal is told in words, with what is wrong in the job."""
-    folder.pretend_program("cat >/dev/null; printf 'refused 16\\n'")
-    folder.pretend_kit(PROVES)
-    (folder.top / "cut.job").write_bytes(SAMPLE[:-1])
-    ended = folder.run("tools/try.sh", "cut.job")
-    words = "refused 16: the file is no job: cut short, too long, or something else\nbyte %d: the job ends inside a field\n"
-    assert (ended.returncode, ended.stdout.decode()) == (2, words % (len(SAMPLE) - 1)), ended
+    for job, said, words in (
+        (SAMPLE[:-1], "refused 16 at 235", "the file ends before the job does: it is cut short, or empty\n" + CUT),
+        (SAMPLE[:4] + b"\7" + SAMPLE[5:], "refused 19 at 4", "a part of the job begins with another tag than belongs there\n" + TAGGED),
+    ):
+        folder.pretend_program("cat >/dev/null; printf '%s\\n'" % said)
+        folder.pretend_kit(PROVES)
+        (folder.top / "cut.job").write_bytes(job)
+        ended = folder.run("tools/try.sh", "cut.job")
+        assert (ended.returncode, ended.stdout.decode()) == (2, "%s: %s%s" % (said, words, MORE)), ended
     folder.pretend_program("cat >/dev/null; printf 'curve degr'")
     folder.pretend_kit(PROVES)
     ended = folder.run("tools/try.sh")
     assert (ended.returncode, ended.stdout) == (3, b"") and b"cut off" in ended.stderr, ended
 
 
-run_parts("tools/try.sh: 6 jobs looked at, 4 proofs, 2 refusals", look, prove, at_once, refusal)
+run_parts("tools/try.sh: 6 jobs looked at, 4 proofs, 3 refusals", look, prove, at_once, refusal)

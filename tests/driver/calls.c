@@ -69,12 +69,17 @@ static void put_result(struct result r)
     put_entries(r.ys, r.ys_len, 4);
 }
 
-/* A count has 8 bytes in memory and 4 in the answer. */
+/* A count or a place has 8 bytes in memory and 4 in the answer. */
 static void put_count(size_t count)
 {
     if (count > UINT32_MAX)
-        wrong = "a count does not fit into 32 bits";
+        wrong = "a count or a place does not fit into 32 bits";
     put_number((uint32_t)count);
+}
+
+int has_place(uint32_t refusal)
+{
+    return refusal == TSB_ENDED || refusal == TSB_TAG || refusal == TSB_LENGTH || refusal == TSB_LEFT_OVER;
 }
 
 static uint32_t check(void)
@@ -206,13 +211,15 @@ static uint32_t read_record(void)
     const uint8_t *bytes = take_list("bytes", 1, &bytes_len);
     struct result r = take_result();
     uint32_t *degree = lend_number("degree", sizeof *degree);
-    size_t *points = lend_number("points", sizeof *points);
-    uint32_t refusal = tsb_read_record(bytes, bytes_len, PLACES(r), degree, points);
+    size_t *points = lend_number("points", sizeof *points), *place = lend_place("place");
+    uint32_t refusal = tsb_read_record(bytes, bytes_len, PLACES(r), degree, points, place);
     put_number(refusal);
     if (refusal == TSB_OK) {
         put_number(*degree);
         put_count(*points);
     }
+    if (has_place(refusal))
+        put_count(*place);
     put_result(r);
     return refusal;
 }
@@ -225,13 +232,16 @@ static uint32_t read_job(void)
     int32_t *clamps = take_places("clamps", 4, &clamps_len);
     uint32_t *degree = lend_number("degree", sizeof *degree);
     size_t *points = lend_number("points", sizeof *points), *count = lend_number("clamp_count", sizeof *count);
-    uint32_t refusal = tsb_read_job(bytes, bytes_len, PLACES(r), clamps, clamps_len, degree, points, count);
+    size_t *place = lend_place("place");
+    uint32_t refusal = tsb_read_job(bytes, bytes_len, PLACES(r), clamps, clamps_len, degree, points, count, place);
     put_number(refusal);
     if (refusal == TSB_OK) {
         put_number(*degree);
         put_count(*points);
         put_count(*count);
     }
+    if (has_place(refusal))
+        put_count(*place);
     put_result(r);
     put_entries(clamps, clamps_len, 4);
     return refusal;

@@ -9,6 +9,9 @@ struct outcome {
     const char *wrong; /* what is wrong with the numbers that came back; NULL for nothing */
 };
 
+/* Whether a refusal of this number tells a place. */
+int has_place(uint32_t refusal);
+
 /* Takes the rest of a case, lends what the call with this number asks for, calls, and puts the answer. False where no export has the number. */
 int call_export(unsigned char number, struct outcome *outcome);
 

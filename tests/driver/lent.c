@@ -11,7 +11,7 @@
 #define ARENA (4u << 20)
 #define MOST_LENT 16
 
-enum kind { INPUT, RESULT, NUMBER };
+enum kind { INPUT, RESULT, NUMBER, PLACE };
 
 struct lent {
     const char *name;
@@ -124,12 +124,22 @@ void *lend_result(const char *name, size_t count, size_t width)
     return place_of(list);
 }
 
-void *lend_number(const char *name, size_t width)
+static void *lend_single(const char *name, enum kind kind, size_t width)
 {
-    struct lent *list = lend(name, NUMBER, 1, width);
+    struct lent *list = lend(name, kind, 1, width);
     for (size_t k = 0; k < width; k++)
         arena[list->at + k] = number_before(k);
     return arena + list->at;
+}
+
+void *lend_number(const char *name, size_t width)
+{
+    return lend_single(name, NUMBER, width);
+}
+
+size_t *lend_place(const char *name)
+{
+    return lend_single(name, PLACE, sizeof(size_t));
 }
 
 static int number_holds(const struct lent *list)
@@ -140,7 +150,7 @@ static int number_holds(const struct lent *list)
     return 1;
 }
 
-const char *what_is_wrong(int refused, const char **name)
+const char *what_is_wrong(enum ending ending, const char **name)
 {
     *name = "the first list";
     if (!guard_holds(0, GUARD))
@@ -152,8 +162,10 @@ const char *what_is_wrong(int refused, const char **name)
             return "was written behind its last entry, or what was lent next before its first";
         if (list->kind == INPUT && list->size != 0 && memcmp(arena + list->at, list->before, list->size) != 0)
             return "is an input and was changed";
-        if (list->kind == NUMBER && refused && !number_holds(list))
+        if (list->kind == NUMBER && ending != DONE && !number_holds(list))
             return "was changed by a call that was refused";
+        if (list->kind == PLACE && ending != REFUSED_AT && !number_holds(list))
+            return "was changed by a call that tells no place";
     }
     return NULL;
 }

@@ -1,6 +1,7 @@
 /*
  * Lists and numbers lent to a call. Each stands between guard bytes, flush with them at both ends; after the call the guards, the inputs
- * and, where the call was refused, the single numbers must be as they were.
+ * and, where the call was refused, the single numbers must be as they were. A number lent for a place is the other way round: it must be as it
+ * was unless the call was refused with a place.
  */
 #ifndef LENT_H
 #define LENT_H
@@ -22,8 +23,14 @@ void *lend_result(const char *name, size_t count, size_t width);
 /* A place for a single number, aligned for it. */
 void *lend_number(const char *name, size_t width);
 
+/* The number that a refusal of broken bytes, and nothing else, writes: the place of the fault. */
+size_t *lend_place(const char *name);
+
+/* How a call ended: carried out, refused, or refused with a place. */
+enum ending { DONE, REFUSED, REFUSED_AT };
+
 /* What is wrong after the call, and the name of the list that it is told of; NULL where all is well. */
-const char *what_is_wrong(int refused, const char **name);
+const char *what_is_wrong(enum ending ending, const char **name);
 
 /* Spoils the byte behind one of the lists, to try whether that is told. */
 void spoil_guard(size_t which);

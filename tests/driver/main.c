@@ -18,6 +18,7 @@
 #include "calls.h"
 #include "lent.h"
 #include "selftest.h"
+#include "tsaghnobir.h"
 
 #define MOST_CASE (4u << 20)
 
@@ -29,6 +30,11 @@ static void tell(const char *name, const char *what)
 {
     fprintf(stderr, "case %lu: %s %s\n", case_number, name, what);
     faults = 1;
+}
+
+static enum ending ending_of(uint32_t refusal)
+{
+    return refusal == TSB_OK ? DONE : has_place(refusal) ? REFUSED_AT : REFUSED;
 }
 
 /* Runs the case in the first bytes of `body`. */
@@ -49,7 +55,7 @@ static int run_case(size_t length, enum filling filling, int spoiled)
     }
     if (spoiled)
         spoil_guard(case_number);
-    what = what_is_wrong(outcome.refusal != 0, &name);
+    what = what_is_wrong(ending_of(outcome.refusal), &name);
     if (what != NULL)
         tell(name, what);
     if (outcome.wrong != NULL)

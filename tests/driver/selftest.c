@@ -1,4 +1,5 @@
-/* Tries the guards: an entry written past either end of a list, into an input or, on a refusal, into a number must be told; no other write. */
+/* Tries the guards: an entry written past either end of a list, into an input, on a refusal into a number, or into a place where none is told must be
+   told; no other write. */
 #include "selftest.h"
 
 #include <stdint.h>
@@ -7,16 +8,16 @@
 
 #include "lent.h"
 
-enum { INPUT, RESULT, NUMBER, BYTES, LISTS };
+enum { INPUT, RESULT, NUMBER, BYTES, PLACE, LISTS };
 
-static const char *const names[LISTS] = {"input", "result", "number", "bytes"};
-static const long counts[LISTS] = {3, 3, 1, 3};
-static const size_t widths[LISTS] = {2, 4, 8, 1};
+static const char *const names[LISTS] = {"input", "result", "number", "bytes", "place"};
+static const long counts[LISTS] = {3, 3, 1, 3, 1};
+static const size_t widths[LISTS] = {2, 4, 8, 1, 8};
 
 static int failed;
 
-/* Lends four lists, writes one entry, every byte of it the same, and hands back the name of the list that is told of. */
-static const char *told_of(enum filling filling, int list, long entry, int byte, int refused)
+/* Lends a list or number of each kind, writes one entry, every byte of it the same, and hands back the name of the list that is told of. */
+static const char *told_of(enum filling filling, int list, long entry, int byte, enum ending ending)
 {
     static const uint16_t input[3] = {301, 302, 303};
     unsigned char *start[LISTS];
@@ -26,8 +27,9 @@ static const char *told_of(enum filling filling, int list, long entry, int byte,
     start[RESULT] = lend_result(names[RESULT], 3, 4);
     start[NUMBER] = lend_number(names[NUMBER], 8);
     start[BYTES] = lend_result(names[BYTES], 3, 1);
+    start[PLACE] = (unsigned char *)lend_place(names[PLACE]);
     memset(start[list] + entry * (long)widths[list], byte, widths[list]);
-    return what_is_wrong(refused, &name) ? name : NULL;
+    return what_is_wrong(ending, &name) ? name : NULL;
 }
 
 static void expect(int told, const char *what, int list, int byte)
@@ -44,7 +46,27 @@ static int same(const char *told, const char *name)
 /* A stray byte may happen to be the guard's own in one filling, never in both. */
 static int told_in_one(int list, long entry, int byte, const char *name)
 {
-    return same(told_of(FIRST, list, entry, byte, 0), name) || same(told_of(SECOND, list, entry, byte, 0), name);
+    return same(told_of(FIRST, list, entry, byte, DONE), name) || same(told_of(SECOND, list, entry, byte, DONE), name);
+}
+
+/* Writes inside what is lent: into an input never, into a number on success alone, into a place on a refusal that tells one alone. */
+static void try_writes(enum filling filling)
+{
+    for (enum ending ending = DONE; ending <= REFUSED_AT; ending++) {
+        expect(same(told_of(filling, INPUT, 2, 9, ending), names[INPUT]), "not told: a changed entry", INPUT, 9);
+        if (ending == DONE)
+            expect(told_of(filling, NUMBER, 0, 9, ending) == NULL, "told: a change on a success", NUMBER, 9);
+        else
+            expect(same(told_of(filling, NUMBER, 0, 9, ending), names[NUMBER]), "not told: a change on a refusal", NUMBER, 9);
+        if (ending == REFUSED_AT)
+            expect(told_of(filling, PLACE, 0, 9, ending) == NULL, "told: a place where one is due", PLACE, 9);
+        else
+            expect(same(told_of(filling, PLACE, 0, 9, ending), names[PLACE]), "not told: a place where none is due", PLACE, 9);
+        for (long entry = 0; entry < 3; entry++) {
+            expect(told_of(filling, RESULT, entry, 9, ending) == NULL, "told: an entry", RESULT, 9);
+            expect(told_of(filling, BYTES, entry, 9, ending) == NULL, "told: an entry", BYTES, 9);
+        }
+    }
 }
 
 int selftest(void)
@@ -55,15 +77,8 @@ int selftest(void)
             expect(told_in_one(list, counts[list], byte, names[list]), "not told: an entry behind the end", list, byte);
             expect(told_in_one(list, -1, byte, before), "not told: an entry before the start", list, byte);
         }
-    for (enum filling filling = FIRST; filling <= SECOND; filling++) {
-        expect(same(told_of(filling, INPUT, 2, 9, 0), names[INPUT]), "not told: a changed entry", INPUT, 9);
-        expect(same(told_of(filling, NUMBER, 0, 9, 1), names[NUMBER]), "not told: a change on a refusal", NUMBER, 9);
-        expect(told_of(filling, NUMBER, 0, 9, 0) == NULL, "told: a change on a success", NUMBER, 9);
-        for (long entry = 0; entry < 3; entry++) {
-            expect(told_of(filling, RESULT, entry, 9, 1) == NULL, "told: an entry", RESULT, 9);
-            expect(told_of(filling, BYTES, entry, 9, 1) == NULL, "told: an entry", BYTES, 9);
-        }
-    }
+    for (enum filling filling = FIRST; filling <= SECOND; filling++)
+        try_writes(filling);
     if (!failed)
         printf("the guards tell what they should\n");
     return failed != 0;

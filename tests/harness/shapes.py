@@ -7,12 +7,14 @@ lines. A lent result list stands in the case by its number of places and in the 
 import struct
 from typing import NamedTuple, Sequence, Tuple
 
+from second_program.record import PLACED
 from second_program.vectors import CALLS, before
 
 FORMATS = {"u8": "B", "u16": "H", "u32": "I", "i32": "i", "f64": "d"}
 CURVE = (("degree", "u32"), ("knots", "u16[]"), ("x", "i32[]"), ("y", "i32[]"))
 LISTS = (("knots", "u16"), ("x", "i32"), ("y", "i32"))
 SIDES = tuple((side, "i32") for side in ("low_x", "high_x", "low_y", "high_y"))
+PLACE = (("place", "u32"),)
 SPLINE_POINTS = (("params", "u16[]"), ("px", "i32[]"), ("py", "i32[]"), ("tx", "i32[]"), ("ty", "i32[]"))
 
 
@@ -21,6 +23,11 @@ class Shape(NamedTuple):
     values: Tuple = ()  # what a success answers
     lists: Tuple = ()  # the lent result lists
     always: Tuple = ()  # what stands behind the number of refusal in any case
+    broken: Tuple = ()  # what stands behind 16, 19, 20 and 21
+
+    def told(self, number):
+        """What stands behind this number of refusal, the lent lists left out."""
+        return (self.values if number == 0 else self.broken if number in PLACED else ()) + self.always
 
 
 SHAPES = dict(
@@ -33,9 +40,9 @@ SHAPES = dict(
     join_through_points=Shape(SPLINE_POINTS, (("points", "u32"),), LISTS),
     list_spans_met=Shape(CURVE + SIDES, (("spans", "u32"),), (("lows", "u16"), ("highs", "u16"))),
     write_record=Shape(CURVE, (("length", "u32"),), (("bytes", "u8"),)),
-    read_record=Shape((("bytes", "u8[]"),), (("degree", "u32"), ("points", "u32")), LISTS),
+    read_record=Shape((("bytes", "u8[]"),), (("degree", "u32"), ("points", "u32")), LISTS, broken=PLACE),
     read_job=Shape(
-        (("bytes", "u8[]"),), (("degree", "u32"), ("points", "u32"), ("clamps", "u32")), LISTS + (("sides", "i32"),)
+        (("bytes", "u8[]"),), (("degree", "u32"), ("points", "u32"), ("clamps", "u32")), LISTS + (("sides", "i32"),), broken=PLACE
     ),
     clampcheck_text=Shape((("bytes", "u8[]"),), always=(("text", "text"),)),
 )
@@ -106,8 +113,7 @@ def body_of(call, arguments, places):
 
 def answer_of(call, number, values, lists):
     shape = SHAPES[call]
-    kinds = shape.always if number else shape.values + shape.always
-    parts = [packed("u32", number)] + [packed(kind, values[name]) for name, kind in kinds]
+    parts = [packed("u32", number)] + [packed(kind, values[name]) for name, kind in shape.told(number)]
     for name, kind in shape.lists:
         entries = [before(kind, k) if entry is None else entry for k, entry in enumerate(lists[name])]
         parts.append(struct.pack("<%d%s" % (len(entries), FORMATS[kind]), *entries))
@@ -134,7 +140,7 @@ def read_answer(case, reader):
     shape = SHAPES[case.call]
     number = reader.number()
     told = [("the number of refusal", number)]
-    told += [(name, reader.value(kind)) for name, kind in (() if number else shape.values) + shape.always]
+    told += [(name, reader.value(kind)) for name, kind in shape.told(number)]
     told += [(name, reader.numbers(kind, count)) for (name, kind), count in zip(shape.lists, case.places)]
     return told
 

@@ -35,10 +35,15 @@ def entries_of(word):
     return [entry for entry in one for _ in range(int(times or 1))]
 
 
+def written_out(text):
+    """The text with what stands in brackets repeated as often as it says."""
+    return re.sub(r"(\d+)x\(([^(),]*)\)", lambda group: " ".join([group[2]] * int(group[1])), text)
+
+
 def parts_of(text, kinds):
     """The parts of a line: lists by name, in which only the names of `kinds` stand, each once."""
     parts = {}
-    for part in text.split(","):
+    for part in written_out(text).split(","):
         name, *words = part.split() or [""]
         if name not in kinds:
             raise Unreadable("there is no part %r here" % name)
@@ -83,13 +88,16 @@ def answer_from(call, text, places):
     """The bytes of the answer that was worked out."""
     shape = SHAPES[call]
     first, comma, rest = text.partition(",")
-    refused = re.fullmatch(r"\s*refused ([1-9]\d*)\s*", first)
+    refused = re.fullmatch(r"\s*refused ([1-9]\d*)(?: at (\d+))?\s*", first)
     passes = call == "check" and first.strip() == "passes"
+    number = int(refused[1]) if refused else 0
     if refused or passes:
         text = rest
-    values = shape.always if refused else shape.values + shape.always
+    values = shape.told(number)
     kinds = dict(values + shape.lists)
-    parts = parts_of(text, kinds) if comma or text.strip() else {}
+    parts = parts_of(text, kinds.keys() - {"place"}) if comma or text.strip() else {}
+    if refused and refused[2]:
+        parts["place"] = [int(refused[2])]
     if set(parts) != set(kinds) or not (parts or refused or passes):
         raise Unreadable("the answer has to tell %s" % (", ".join(kinds) or "whether the curve passes"))
     for (name, _), count in zip(shape.lists, places):
@@ -97,7 +105,7 @@ def answer_from(call, text, places):
             raise Unreadable("%s has %d entries and %d places" % (name, len(parts[name]), count))
     return answer_of(
         call,
-        int(refused[1]) if refused else 0,
+        number,
         {name: of_kind(name, kind, parts[name]) for name, kind in values},
         parts,
     )

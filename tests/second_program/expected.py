@@ -3,6 +3,7 @@
 from .curve import FARTHEST, MOST_POINTS, Curve
 from .fault import PLANTED
 from .random_curves import random_curve, spoiled_curve
+from .record import PLACED
 
 EACH_REFUSAL = 21
 SUCCESSES = 80
@@ -21,6 +22,20 @@ def expect(number, case):
     return case
 
 
+def expect_broken(case):
+    """A case of bytes that are no record, or no job, wherever they break."""
+    if case.number not in PLACED and not PLANTED:
+        raise Unexpected("%s answers %d on broken bytes" % (case.call, case.number))
+    return case
+
+
+def expect_at(number, place, case):
+    """A case of bytes that break at a known place."""
+    if case.place != place and not PLANTED:
+        raise Unexpected("%s tells place %s, and %d was meant" % (case.call, case.place, place))
+    return expect(number, case)
+
+
 def largest_curve(dice, m, points=MOST_POINTS):
     return random_curve(dice, m, points, gap=16383, reach=FARTHEST)
 
@@ -33,6 +48,11 @@ def one_short(dice, room):
     """The room with one place fewer in one list, sometimes in several."""
     short = dice.between(0, len(room) - 1)
     return tuple(max(0, have - 1) if k == short or dice.chance(4) else have for k, have in enumerate(room))
+
+
+def each_one_short(room):
+    """The room with one place fewer in each list by turns."""
+    return [tuple(have - (k == short) for k, have in enumerate(room)) for short in range(len(room))]
 
 
 def spare_room(dice, room):

@@ -1,6 +1,7 @@
 """Cases of `read_job` and of the text of `clampcheck`, and bytes that are no job."""
 
 from . import vectors
+from .broken_cases import at_the_end, broken_jobs, one_past_the_most
 from .clamp_cases import bad_rectangle, good_rectangle
 from .curve import FARTHEST, MOST_POINTS, Curve
 from .expected import (
@@ -8,14 +9,17 @@ from .expected import (
     SUCCESSES,
     WORKED_A,
     any_room,
+    each_one_short,
     expect,
+    expect_at,
+    expect_broken,
     one_short,
     refused_curves,
     room_for,
     spare_room,
 )
 from .random_curves import random_curve, random_knots, spoiled_curve
-from .record import field, record_of
+from .record import MOST_CLAMPS, field, record_of
 from .record_cases import clamp_fields, damaged_record
 
 
@@ -39,7 +43,7 @@ def longest_job(dice):
 
 
 def damaged_job(dice):
-    """Refused with 16 for its clamps, whatever else is wrong with it."""
+    """Broken at its clamps, whatever else is wrong with it."""
     curve, clamps = good_job(dice, 3)
     if dice.chance(3):
         curve = spoiled_curve(dice, dice.between(2, 7))
@@ -69,7 +73,7 @@ def with_bad_clamp(dice):
 
 def told_or_read(dice, make, successes):
     """The cases of reading a job and of telling it: make takes bytes, the room that a good job needs, and its points."""
-    yield expect(16, make(b"", None, 0))
+    yield expect_broken(make(b"", None, 0))
     for k in range(successes):
         curve, clamps = good_job(dice, dice.pick((0, 3, 5)), m=1 + k % 3)
         yield expect(0, make(job_of(curve, clamps), (*room_for(curve), 4 * len(clamps)), len(curve.xs)))
@@ -80,9 +84,29 @@ def told_or_read(dice, make, successes):
         curve, clamps = with_bad_clamp(dice)
         yield expect(14, make(job_of(curve, clamps), None, len(curve.xs)))
     for _ in range(EACH_REFUSAL):
-        yield expect(16, make(damaged_record(dice) + clamp_fields([(0, 1, 0, 1)]), None, 30))
+        yield expect_broken(make(damaged_record(dice) + clamp_fields([(0, 1, 0, 1)]), None, 30))
     for _ in range(2 * EACH_REFUSAL):
-        yield expect(16, make(damaged_job(dice), None, 30))
+        yield expect_broken(make(damaged_job(dice), None, 30))
+
+
+def broken_job_cases(dice, make):
+    """Jobs that break at a known place, and the longest job at its end."""
+    for number, place, data in broken_jobs(dice):
+        yield expect_at(number, place, make(data, None, 30))
+    for number, place, data in one_past_the_most(dice, 1):
+        yield expect_at(number, place, make(data, None, len(data) // 4))
+    for number, place, data in at_the_end(longest_job(dice)):
+        yield expect_at(number, place, make(data, None, MOST_POINTS))
+
+
+def full_job_cases(dice):
+    """64 clamps, with room that is just enough or one place short."""
+    curve = random_curve(dice, points=6)
+    data = job_of(curve, [good_rectangle(dice, curve) for _ in range(MOST_CLAMPS)])
+    room = (*room_for(curve), 4 * MOST_CLAMPS)
+    yield expect(0, vectors.read_job(data, room, 6))
+    for short in each_one_short(room):
+        yield expect(15, vectors.read_job(data, short, 6))
 
 
 def read_job_cases(dice):
@@ -97,6 +121,8 @@ def read_job_cases(dice):
         if room[3] == 4 * len(clamps) and room[:3] == room_for(curve):
             room = (*room[:2], room[2] - 1, room[3])
         yield expect(15, vectors.read_job(job_of(curve, clamps), room, len(curve.xs)))
+    yield from broken_job_cases(dice, make)
+    yield from full_job_cases(dice)
 
 
 def clampcheck_text_cases(dice):
@@ -104,4 +130,5 @@ def clampcheck_text_cases(dice):
     worked = job_of(WORKED_A, [(2, 3, 5, 9), (9, 12, 0, 4), (8, 10, 8, 9)])
     yield expect(0, make(worked, None, 4))
     yield from told_or_read(dice, make, 2 * SUCCESSES)
-    yield expect(16, make(longest_job(dice) + bytes(1), None, MOST_POINTS))
+    yield expect_broken(make(longest_job(dice) + bytes(1), None, MOST_POINTS))
+    yield from broken_job_cases(dice, make)

@@ -10,6 +10,7 @@ from .spans import met, rectangle_ok, spans
 MOST_KNOT_BYTES = 2056
 MOST_COORDINATE_BYTES = 4096
 MOST_CLAMPS = 64
+PLACED = (16, 19, 20, 21)
 
 
 def field(tag, contents):
@@ -36,18 +37,47 @@ def write_record(curve, room):
     return (15 if room < len(record) else 0), record
 
 
-def take_field(data, at, tag, fits):
-    """The contents of the field at this place and the place behind it; None where it is no such field."""
-    if len(data) < at + 3 or data[at] != tag:
-        return None
+class Fault(Exception):
+    """Bytes that are no record, or no job: the number of their leftmost fault and its place."""
+
+    def __init__(self, number, place):
+        super().__init__("%d at %d" % (number, place))
+        self.number, self.place = number, place
+
+
+def excluded(low, fits):
+    """Whether no right length has this first byte. Plays a part in a planted fault alone."""
+    return not any(fits(low + 256 * high) for high in range(256))
+
+
+def take_length(data, at, fits):
+    """The length of the field at this place, whose tag is right, or its Fault."""
+    if planted("read_job:half_length") and len(data) == at + 2 and excluded(data[at + 1], fits):
+        raise Fault(20, at + 1)
+    if len(data) < at + 3:
+        raise Fault(16, len(data))
     length = data[at + 1] + 256 * data[at + 2]
-    if not fits(length) or len(data) < at + 3 + length:
-        return None
+    if planted("read_record:ended_first") and len(data) < at + 3 + length:
+        raise Fault(16, len(data))
+    if not fits(length):
+        raise Fault(20, at if planted("read_record:length_place") else at + 1)
+    return length
+
+
+def take_field(data, at, tag, fits):
+    """The contents of the field at this place and the place behind it, or its Fault: tag first, then length, then contents."""
+    if at == len(data):
+        raise Fault(16, len(data))
+    if data[at] != tag:
+        raise Fault(19, at)
+    length = take_length(data, at, fits)
+    if len(data) < at + 3 + length:
+        raise Fault(16, len(data))
     return data[at + 3 : at + 3 + length], at + 3 + length
 
 
 def take_record(data):
-    """The curve at the front and the place behind it, or None; the curve is not checked."""
+    """The curve at the front and the place behind it, or the Fault; the curve is not checked."""
     coordinates = lambda length: length % 4 == 0 and length <= MOST_COORDINATE_BYTES
     kinds = (
         (1, lambda length: length == 1),
@@ -57,70 +87,78 @@ def take_record(data):
     )
     parts, at = [], 0
     for tag, fits in kinds:
-        taken = take_field(data, at, tag, fits)
-        if taken is None:
-            return None
-        parts.append(taken[0])
-        at = taken[1]
+        contents, at = take_field(data, at, tag, fits)
+        parts.append(contents)
     degree, knots, xs, ys = parts
     ints = [list(struct.unpack("<%di" % (len(part) // 4), part)) for part in (xs, ys)]
     return Curve(degree[0], list(struct.unpack("<%dH" % (len(knots) // 2), knots)), *ints), at
 
 
+def take_lone_record(data):
+    """The curve whose record all the bytes are, or the Fault."""
+    curve, at = take_record(data)
+    if at < len(data) and not planted("read_record"):
+        raise Fault(21, at)
+    return curve
+
+
 def take_job(data):
-    """The curve and the clamps, or None."""
-    taken = take_record(data)
-    if taken is None:
-        return None
-    curve, at = taken
+    """The curve and the clamps, or the Fault."""
+    curve, at = take_record(data)
     clamps = []
     while at < len(data):
-        taken = take_field(data, at, 5, lambda length: length == 16)
-        if taken is None or len(clamps) == MOST_CLAMPS:
-            return None
-        clamps.append(struct.unpack("<4i", taken[0]))
-        at = taken[1]
+        if len(clamps) == MOST_CLAMPS:
+            raise Fault(19 if planted("read_job:left_over") else 21, at)
+        contents, at = take_field(data, at, 5, lambda length: length == 16)
+        clamps.append(struct.unpack("<4i", contents))
     return curve, clamps
 
 
 def read_record(data, room):
-    """Number and the curve: 16, then 1 to 7, then 15."""
-    taken = take_record(data)
-    if taken is None or (taken[1] != len(data) and not planted("read_record")):
-        return 16, None
-    curve = taken[0]
-    return check(curve) or refused_room(curve, room), curve
+    """Number, place and the curve: 16 and 19 to 21, which alone have a place, then 1 to 7, then 15."""
+    try:
+        curve = take_lone_record(data)
+    except Fault as fault:
+        return fault.number, fault.place, None
+    return check(curve) or refused_room(curve, room), None, curve
 
 
 def judged_job(data):
-    """Number without 15, curve and clamps: 16 over all, then 1 to 7, then 14."""
-    taken = take_job(data)
-    if taken is None:
-        return 16, None, None
-    curve, clamps = taken
+    """Number without 15, place, curve and clamps: 16 and 19 to 21 over all, then 1 to 7, then 14."""
+    try:
+        curve, clamps = take_job(data)
+    except Fault as fault:
+        return fault.number, fault.place, None, None
     if planted("read_job"):
         clamps = clamps[:1]
     number = check(curve)
     if not number and not all(rectangle_ok(clamp) for clamp in clamps):
         number = 14
-    return number, curve, clamps
+    return number, None, curve, clamps
 
 
 def read_job(data, room):
-    """Number, curve and clamps; room is for knots, x, y and the clamps' numbers, four each."""
-    number, curve, clamps = judged_job(data)
+    """Number, place, curve and clamps; room is for knots, x, y and the clamps' numbers, four each."""
+    number, place, curve, clamps = judged_job(data)
     if not number:
         number = refused_room(curve, room[:3])
     if not number and room[3] < 4 * len(clamps):
         number = 15
-    return number, curve, clamps
+    return number, place, curve, clamps
+
+
+def refusal_text(number, place):
+    """The line on a refused job."""
+    if place is None:
+        return "refused %d\n" % number
+    return "refused %d at %d\n" % (number, place + 1 if planted("clampcheck_text:one_too_far") else place)
 
 
 def clampcheck_text(data):
     """Number and what the program prints."""
-    number, curve, clamps = judged_job(data)
+    number, place, curve, clamps = judged_job(data)
     if number:
-        return number, "refused %d\n" % number
+        return number, refusal_text(number, place)
     lines = ["curve degree %d points %d spans %d" % (curve.degree, len(curve.xs), len(spans(curve)))]
     for place, clamp in enumerate(clamps, 0 if planted("clampcheck_text") else 1):
         hits = met(curve, clamp)

@@ -1,6 +1,7 @@
 """Cases of `write_record` and `read_record`, and bytes that are no record."""
 
 from . import vectors
+from .broken_cases import at_the_end, broken_records, one_past_the_most
 from .curve import MOST_POINTS, Curve
 from .expected import (
     EACH_REFUSAL,
@@ -8,7 +9,10 @@ from .expected import (
     WIDE,
     WORKED_A,
     any_room,
+    each_one_short,
     expect,
+    expect_at,
+    expect_broken,
     largest_curve,
     one_short,
     refused_curves,
@@ -17,7 +21,7 @@ from .expected import (
     too_many_points,
 )
 from .random_curves import random_curve, spoiled_curve
-from .record import field, read_record, record_of
+from .record import PLACED, field, read_record, record_of
 
 
 def write_record_cases(dice):
@@ -67,7 +71,7 @@ def damaged_record(dice):
     """Bytes that are no record."""
     while True:
         data = perhaps_damaged(dice)
-        if read_record(data, WIDE)[0] == 16:
+        if read_record(data, WIDE)[0] in PLACED:
             return data
 
 
@@ -97,7 +101,7 @@ def perhaps_damaged(dice):
 
 
 def hollow_record(dice):
-    """Fields of length 0 are whole numbers of entries: no 16, but 2."""
+    """Fields of length 0 are whole numbers of entries: their length is right, and 2 is told."""
     m = dice.between(1, 3)
     curve = random_curve(dice, m)
     return record_of(dice.pick((Curve(m, [], [], []), curve._replace(xs=[]), curve._replace(ys=[]))))
@@ -109,23 +113,39 @@ def clamp_fields(clamps):
 
 def read_record_cases(dice):
     make = vectors.read_record
-    yield expect(16, make(b"", (4, 4, 4), 0))
+    yield expect_broken(make(b"", (4, 4, 4), 0))
     for k in range(SUCCESSES):
         curve = random_curve(dice, m=1 + k % 3)
         yield expect(0, make(record_of(curve), spare_room(dice, room_for(curve)), len(curve.xs)))
     curve = largest_curve(dice, 3)
     yield expect(0, make(record_of(curve), (1028, 1024, 1024), MOST_POINTS))
-    yield expect(16, make(record_of(too_many_points(dice, 2)), (2, 2, 2), MOST_POINTS + 1))
+    yield expect_broken(make(record_of(too_many_points(dice, 2)), (2, 2, 2), MOST_POINTS + 1))
     from_bytes = lambda curve: make(record_of(curve), any_room(dice, 3), vectors.size(curve))
     yield from refused_curves(dice, from_bytes, byte=True)
     for _ in range(4):
         yield expect(2, make(hollow_record(dice), any_room(dice, 3), 20))
     for _ in range(3 * EACH_REFUSAL):
-        yield expect(16, make(damaged_record(dice), any_room(dice, 3), 30))
+        yield expect_broken(make(damaged_record(dice), any_room(dice, 3), 30))
     for _ in range(EACH_REFUSAL):
         curve = random_curve(dice)
         extra = dice.pick((bytes(1), bytes([5]), record_of(curve), clamp_fields([(0, 1, 0, 1)])))
-        yield expect(16, make(record_of(curve) + extra, room_for(curve), 30))
+        yield expect_broken(make(record_of(curve) + extra, room_for(curve), 30))
     for _ in range(EACH_REFUSAL):
         curve = random_curve(dice)
         yield expect(15, make(record_of(curve), one_short(dice, room_for(curve)), len(curve.xs)))
+    yield from broken_record_cases(dice)
+
+
+def broken_record_cases(dice):
+    """Records that break at a known place, the longest record at its end, and room that is just enough or one place short."""
+    make = vectors.read_record
+    for number, place, data in broken_records(dice):
+        yield expect_at(number, place, make(data, any_room(dice, 3), 30))
+    for number, place, data in one_past_the_most(dice, 0):
+        yield expect_at(number, place, make(data, any_room(dice, 3), len(data) // 4))
+    for number, place, data in at_the_end(record_of(largest_curve(dice, 3))):
+        yield expect_at(number, place, make(data, any_room(dice, 3), MOST_POINTS))
+    curve = random_curve(dice, points=6)
+    yield expect(0, make(record_of(curve), room_for(curve), 6))
+    for room in each_one_short(room_for(curve)):
+        yield expect(15, make(record_of(curve), room, 6))

@@ -7,7 +7,8 @@ A lent result list is given by its capacity alone: before the call entry k of it
 (5k + 3) mod 256 (u8), and the number lent to `carrying` holds 77.
 
 An answer is the refusal number in 4 bytes, 0 for none. After a success the answer's values follow: floats by their 8 bytes,
-the number of points, spans or bytes as u32, of `compact` the number removed, of a reader the degree and the counts. Then
+the number of points, spans or bytes as u32, of `compact` the number removed, of a reader the degree and the counts. Behind a
+reader's 16, 19, 20 or 21, and behind no other number, stands the place as u32. Then
 comes every lent result list whole, as it stands after the call. `carrying` has the lent number, then the count and the
 entries of the part. The text of `clampcheck` stands behind its number with a byte 0 after it.
 """
@@ -46,6 +47,7 @@ class Case(NamedTuple):
     curve: Optional[curves.Curve] = None  # what was accepted, with the parameters and rectangles that were asked
     asked: Sequence = ()
     clamps: Sequence = ()
+    place: Optional[int] = None  # where the bytes break, if they do
 
 
 def u32(*numbers):
@@ -75,9 +77,9 @@ def after(kind, room, result):
     return entries(kind, list(result) + [before(kind, k) for k in range(len(result), room)])
 
 
-def case(call, number, arguments, answer, points, curve=None, asked=(), clamps=()):
+def case(call, number, arguments, answer, points, curve=None, asked=(), clamps=(), place=None):
     body = bytes([CALLS.index(call) + 1]) + arguments
-    return Case(call, number, body, u32(number) + answer, points, None if number else curve, asked, clamps)
+    return Case(call, number, body, u32(number) + answer, points, None if number else curve, asked, clamps, place)
 
 
 def size(curve):
@@ -163,28 +165,36 @@ def write_record(curve, room):
     return case("write_record", number, curve_bytes(curve) + u32(room), answer, size(curve), curve)
 
 
+def told_of_reading(number, place, *counts):
+    """What stands behind a reader's number: the degree and the counts, the place, or nothing."""
+    if number == 0:
+        return u32(*counts)
+    return b"" if place is None else u32(place)
+
+
 @answering
 def read_record(data, room, points):
-    number, curve = record.read_record(data, room)
-    counts = u32(curve.degree, len(curve.xs)) if number == 0 else b""
-    answer = counts + lists_after(number, curve, room)
-    return case("read_record", number, lent_list("u8", list(data)) + u32(*room), answer, points, curve)
+    number, place, curve = record.read_record(data, room)
+    counts = (curve.degree, len(curve.xs)) if number == 0 else ()
+    answer = told_of_reading(number, place, *counts) + lists_after(number, curve, room)
+    return case("read_record", number, lent_list("u8", list(data)) + u32(*room), answer, points, curve, place=place)
 
 
 @answering
 def read_job(data, room, points):
-    number, curve, clamps = record.read_job(data, room)
-    counts = u32(curve.degree, len(curve.xs), len(clamps)) if number == 0 else b""
+    number, place, curve, clamps = record.read_job(data, room)
+    counts = (curve.degree, len(curve.xs), len(clamps)) if number == 0 else ()
     sides = [side for clamp in clamps for side in clamp] if number == 0 else []
-    answer = counts + lists_after(number, curve, room[:3]) + after("i32", room[3], sides)
+    lists = lists_after(number, curve, room[:3]) + after("i32", room[3], sides)
     arguments = lent_list("u8", list(data)) + u32(*room)
-    return case("read_job", number, arguments, answer, points, curve, (), clamps)
+    return case("read_job", number, arguments, told_of_reading(number, place, *counts) + lists, points, curve, (), clamps, place)
 
 
 @answering
 def clampcheck_text(data, points):
     number, text = record.clampcheck_text(data)
-    return case("clampcheck_text", number, lent_list("u8", list(data)), text.encode("ascii") + b"\0", points)
+    place = record.judged_job(data)[1]
+    return case("clampcheck_text", number, lent_list("u8", list(data)), text.encode("ascii") + b"\0", points, place=place)
 
 
 def case_file(cases):

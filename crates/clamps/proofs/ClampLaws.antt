@@ -1,36 +1,33 @@
--- Clamps' fields are judged sound exactly where the bytes behind a record are some clamps' bytes, and these tell their clamps.
+-- Where clamps' fields are judged sound, the bytes behind a record are some clamps' bytes, and these tell their clamps.
 use mathlib.Core.Bool.{Bool, true, false, cond}
 use mathlib.Core.Path.{_≡_, refl, sym, ap, _∙_}
-use mathlib.Core.List.{List, [], _∷_, _++_}
+use mathlib.Core.List.{List, [], _++_}
 use Prim.Native.Nat.{ℕ, zero, suc, _+_, _*_, _-_, _≤_, zero-le}
-use native.Mathlib.Nat.{add-zero}
 use native.Mathlib.Omega.{arith}
-use lib.Dec.{leb, lit<, lit≤}
+use lib.Dec.{leb, lit<}
 use lib.IntN.{pos}
-use lib.ListN.{length, getD, take, drop, length-drop, length-append, drop-of-length-le}
+use lib.ListN.{length, getD, take, drop, drop-of-length-le}
 use mir.Syntax.{w32}
 use mir.Val.{SFits}
 use mir.Facts.{sfits-toZ, sfits-lit}
-use borrow.Author.Tests.{leb-true, eqb-false}
+use borrow.Author.Tests.{leb-true}
 use Rattle.grid.specs.Limits.{headBytes, clampBytes}
 use Rattle.fields.specs.Bytes.{fieldBytes, coordinateBytes, Octets}
 use Rattle.fields.specs.Places.{i32At}
 use Rattle.format.proofs.EntryLaws.{coordinates-exact, bits-fit, entries-all}
 use Rattle.format.proofs.InjectiveLaws.{field-injective, coordinates-injective, each-injective}
-use Rattle.layout.specs.Judging.{fieldAt}
-use Rattle.layout.specs.declared.Fault.{Fault}
-use Rattle.layout.specs.declared.Fault.the-variants.{LeftOver}
+use Rattle.layout.specs.Judging.{leftOverAt, fieldAt}
+use Rattle.layout.specs.declared.Break.{Break}
 use Rattle.layout.specs.declared.Taken.{Taken}
 use Rattle.layout.specs.declared.Taken.the-variants.{Field, Broken as Untaken}
-use Rattle.layout.proofs.SplitLaws.{Whole, field-known, field-split, field-found, length-least, length-most, length-right}
-use Rattle.layout.proofs.RecordLaws.{behind}
+use Rattle.layout.proofs.SplitLaws.{Whole, field-known, field-split, length-least, length-most}
 use Rattle.clamps.specs.Clamp.{clampSides, sideBytes, clampFieldBytes, Clamp, ClampFits, noClamp, sides, clampTag, clampField, clampFields, clampAt, clampsAt}
 use Rattle.clamps.specs.Tail.{clampRule, thenClamps, clampsFrom}
 use Rattle.clamps.specs.declared.Tail.{Tail}
 use Rattle.clamps.specs.declared.Tail.the-variants.{Clamps, Broken}
-use Rattle.clamps.proofs.TailLaws.{clamp-inside, tail-done, tail-next}
+use Rattle.clamps.proofs.TailLaws.{clamp-inside}
 
-broken-tail : (fault : Fault) (n : ℕ) → Broken fault ≡ Clamps n → ⊥
+pub broken-tail : (fault : Break) (n : ℕ) → Broken fault ≡ Clamps n → ⊥
 broken-tail fault n e = let z : _≡_ {A = ℕ} 0 1 = cc in omega arith
 
 -- clamps from a place to the end of the bytes, `many` of them
@@ -71,10 +68,10 @@ module _ (bytes : List ℕ) (octets : Octets bytes) where
       let same : count ≡ n = cc in
       (0, omega arith, zero-le, run-none at inside (leb-true (length bytes) at b))
 
-  counted-last : (at count n : ℕ) → at ≤ length bytes → (b : Bool) → leb (length bytes) at ≡ b → cond b (Clamps count) (Broken (LeftOver at)) ≡ Clamps n
+  counted-last : (at count n : ℕ) → at ≤ length bytes → (b : Bool) → leb (length bytes) at ≡ b → cond b (Clamps count) (Broken (leftOverAt at)) ≡ Clamps n
       → Counted 0 at count n
   counted-last at count n inside true b e = counted-none 0 at count n inside b e
-  counted-last at count n inside false b e = absurd (broken-tail (LeftOver at) n e)
+  counted-last at count n inside false b e = absurd (broken-tail (leftOverAt at) n e)
 
   counted-taken : (left at count n : ℕ) (next : Tail) → (at + clampFieldBytes ≤ length bytes → next ≡ Clamps n → Counted left (at + clampFieldBytes) (count + 1) n)
       → (t : Taken) → fieldAt clampRule bytes at ≡ t → thenClamps t next ≡ Clamps n → Counted (suc left) at count n
@@ -95,25 +92,6 @@ module _ (bytes : List ℕ) (octets : Octets bytes) where
   clamps-known (suc left) at count n inside e =
       counted-more left at count n (clampsFrom left bytes (at + clampFieldBytes) (count + 1)) inside (λ i f. clamps-known left (at + clampFieldBytes) (count + 1) n i f)
       (leb (length bytes) at) refl e
-
--- some clamps' bytes behind a place are counted there
-pub clamps-found : (bytes : List ℕ) (cs : List Clamp) (left at count : ℕ) → at ≤ length bytes → drop at bytes ≡ clampFields cs → length cs ≤ left
-    → clampsFrom left bytes at count ≡ Clamps (count + length cs)
-clamps-found bytes [] left at count inside e few =
-    let none : length bytes - at ≡ 0 = sym (length-drop at bytes) ∙ ap length e in
-    tail-done bytes at count left (omega arith) ∙ ap Clamps (sym (add-zero count))
-clamps-found bytes (c ∷ cs) zero at count inside e few = absurd (omega arith)
-clamps-found bytes (c ∷ cs) (suc left) at count inside e few =
-    let size : length bytes - at ≡ clampFieldBytes + length (clampFields cs) =
-    sym (length-drop at bytes) ∙ ap length e ∙ length-append (clampField c) (clampFields cs) in
-    let taken : fieldAt clampRule bytes at ≡ Field clampBytes =
-    field-found clampRule bytes (coordinateBytes (sides c)) (clampFields cs) at (lit< tt)
-    (length-right clampRule clampBytes (lit≤ tt) (lit≤ tt) (eqb-false clampBytes 0 refl) refl) e in
-    let rest : drop (at + clampFieldBytes) bytes ≡ clampFields cs = behind at (at + clampFieldBytes) clampTag bytes (coordinateBytes (sides c)) (clampFields cs) refl e in
-    let total : count + 1 + length cs ≡ count + suc (length cs) = omega arith in
-    tail-next bytes at count (omega arith) (suc left) left clampBytes refl taken
-    ∙ clamps-found bytes cs left (at + clampFieldBytes) (count + 1) (omega arith) rest (omega arith)
-    ∙ ap Clamps total
 
 -- the sides that stand in bytes are 32-bit numbers
 pub clamps-fit : (bytes : List ℕ) → Octets bytes → (at count i : ℕ) → ClampFits (getD (clampsAt bytes at count) i noClamp)

@@ -6,8 +6,7 @@ use Prim.Native.Nat.{ℕ}
 use lib.IntN.{pos, negsuc}
 use lib.ListN.{replicate}
 use Rattle.grid.specs.Rows.{onGrid, axisOk, rectangleOk}
-use Rattle.layout.specs.Judging.{lengthOk, fieldAt}
-use Rattle.layout.specs.declared.Fault.the-variants.{Tag, LeftOver}
+use Rattle.layout.specs.Judging.{tagAt, leftOverAt, lengthOk, fieldAt}
 use Rattle.clamps.specs.Clamp.{Clamp, allSides, clampFields, clampsAt, clampsOk}
 use Rattle.clamps.specs.Tail.{clampsFrom, clampsBehind}
 use Rattle.clamps.specs.declared.Tail.the-variants.{Clamps, Broken}
@@ -46,7 +45,7 @@ unfolding clampsFrom fieldAt lengthOk twoBytes
 two-behind = refl
 
 -- no other tag begins a clamp
-tag-6 : clampsBehind (6 ∷ 16 ∷ 0 ∷ []) 0 ≡ Broken (Tag 0)
+tag-6 : clampsBehind (6 ∷ 16 ∷ 0 ∷ []) 0 ≡ Broken (tagAt 0)
 unfolding clampsFrom fieldAt lengthOk
 tag-6 = refl
 
@@ -55,7 +54,7 @@ clamps-64 : clampsBehind (clampFields (replicate 64 small)) 0 ≡ Clamps 64
 unfolding clampsFrom fieldAt lengthOk
 clamps-64 = refl
 
-clamps-65 : clampsBehind (clampFields (replicate 65 small)) 0 ≡ Broken (LeftOver 1216)
+clamps-65 : clampsBehind (clampFields (replicate 65 small)) 0 ≡ Broken (leftOverAt 1216)
 unfolding clampsFrom fieldAt lengthOk
 clamps-65 = refl
 

@@ -4,3 +4,4 @@ pub mod SideLaws
 pub mod ClampLaws
 pub mod SentenceLaws
 pub mod Controls
+pub mod RowLaws

@@ -5,9 +5,8 @@ use Prim.Native.Nat.{ℕ, zero, suc, _+_, _<_, _≤_}
 use native.Mathlib.Omega.{arith}
 use lib.ListN.{length}
 use borrow.Author.Tests.{le-leb, lt-leb}
-use Rattle.layout.specs.Judging.{fieldAt}
-use Rattle.layout.specs.declared.Fault.{Fault}
-use Rattle.layout.specs.declared.Fault.the-variants.{LeftOver}
+use Rattle.layout.specs.Judging.{leftOverAt, fieldAt}
+use Rattle.layout.specs.declared.Break.{Break}
 use Rattle.layout.specs.declared.Taken.the-variants.{Field, Broken as Untaken}
 use Rattle.layout.proofs.SplitLaws.{field-known, length-least}
 use Rattle.clamps.specs.Clamp.{clampFieldBytes}
@@ -27,11 +26,11 @@ module _ (bytes : List ℕ) (at count : ℕ) where
   tail-done (suc left) h = rw (le-leb (length bytes) at h)
 
   module _ (more : at < length bytes) where
-    pub tail-full : (left : ℕ) → left ≡ 0 → clampsFrom left bytes at count ≡ Broken (LeftOver at)
+    pub tail-full : (left : ℕ) → left ≡ 0 → clampsFrom left bytes at count ≡ Broken (leftOverAt at)
     unfolding clampsFrom
     tail-full left e = ap (λ (n : ℕ). clampsFrom n bytes at count) e ∙ rw (lt-leb (length bytes) at more)
 
-    pub tail-broken : (left : ℕ) (fault : Fault) → 0 < left → fieldAt clampRule bytes at ≡ Untaken fault → clampsFrom left bytes at count ≡ Broken fault
+    pub tail-broken : (left : ℕ) (fault : Break) → 0 < left → fieldAt clampRule bytes at ≡ Untaken fault → clampsFrom left bytes at count ≡ Broken fault
     unfolding clampsFrom
     tail-broken zero fault h e = absurd (omega arith)
     tail-broken (suc left) fault h e = rw (lt-leb (length bytes) at more, e)

@@ -5,9 +5,8 @@ use Prim.Native.Nat.{ℕ, zero, suc, _+_}
 use lib.Dec.{leb}
 use lib.ListN.{length}
 use Rattle.grid.specs.Limits.{clampBytes, clampsMost}
-use Rattle.layout.specs.Judging.{fieldAt}
+use Rattle.layout.specs.Judging.{leftOverAt, fieldAt}
 use Rattle.layout.specs.declared.Rule.{Rule}
-use Rattle.layout.specs.declared.Fault.the-variants.{LeftOver}
 use Rattle.layout.specs.declared.Taken.{Taken}
 use Rattle.layout.specs.declared.Taken.the-variants.{Field, Broken as Untaken}
 use Rattle.clamps.specs.Clamp.{clampTag, clampFieldBytes}
@@ -25,7 +24,7 @@ thenClamps (Untaken fault) next = Broken fault
 
 -- from a place on, with `count` clamps before it and room for `left` more: the number of all clamps, or the leftmost fault
 unfoldable pub clampsFrom : ℕ → List ℕ → ℕ → ℕ → Tail
-clampsFrom zero bytes at count = cond (leb (length bytes) at) (Clamps count) (Broken (LeftOver at))
+clampsFrom zero bytes at count = cond (leb (length bytes) at) (Clamps count) (Broken (leftOverAt at))
 clampsFrom (suc left) bytes at count =
     cond (leb (length bytes) at) (Clamps count) (thenClamps (fieldAt clampRule bytes at) (clampsFrom left bytes (at + clampFieldBytes) (count + 1)))
 

@@ -1,5 +1,5 @@
 // The clamps behind a record: their fields' structure, row 14 for each, and their sides.
-use layout::Fault;
+use layout::Break;
 use layout::Rule;
 use layout::Taken;
 ghost use mathlib.Core.Path.{_≡_};
@@ -23,7 +23,7 @@ const CLAMP_FIELD_BYTES: usize = grid::HEAD_BYTES + grid::CLAMP_BYTES;
 // How many clamps there are, or the leftmost fault.
 pub enum Tail {
     Clamps(usize),
-    Broken(Fault),
+    Broken(Break),
 }
 
 // What a clamp's field must be.
@@ -46,7 +46,10 @@ pub fn clamps_behind(bytes: &[u8], start: usize) -> Tail
     let mut count = 0;
     while at < bytes.len() {
         if count == grid::CLAMPS_MOST {
-            return Tail::Broken(Fault::LeftOver(at));
+            return Tail::Broken(Break {
+                number: refusal::LEFT_OVER,
+                place: at,
+            });
         }
         match layout::take_field(bytes, at, clamp_rule()) {
             Taken::Broken(fault) => {

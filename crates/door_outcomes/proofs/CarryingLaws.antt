@@ -8,7 +8,7 @@ use lib.IntN.{ℤ}
 use lib.ListN.{length}
 use Rattle.span.specs.Span.{spanOf}
 use Rattle.domain.specs.Parameter.{parameterNumber}
-use Rattle.domain.proofs.ParameterLaws.{Within, accepted-within}
+use Rattle.domain.proofs.ParameterLaws.{accepted-within}
 use Rattle.carrying.specs.Carrying.{onAxis}
 use Rattle.carrying.specs.declared.Axis.{Axis}
 use Rattle.carrying.specs.declared.Axis.the-variants.{X, Y}

@@ -1,11 +1,17 @@
 -- What the contracts of the exports to C settle, in their own words (headings "How much each contract says", "The point at a parameter"): an export by cases
--- has one outcome, and the index that `tsb_carrying` hands back finds the coordinates that the carrying call hands back.
+-- has one outcome, a place is told with a fault and with nothing else, and the index that `tsb_carrying` hands back finds the coordinates that the carrying call hands back.
+use mathlib.Core.Bool.{Bool, true, false, _||_}
 use mathlib.Core.List.{List}
 use mathlib.Core.Path.{_≡_}
 use Prim.Native.Nat.{ℕ, _+_, _<_}
+use lib.Dec.{eqb}
 use lib.IntN.{ℤ}
 use lib.ListN.{length, take, drop}
+use Rattle.refusal.specs.Numbers.{endedRefused, tagRefused, lengthRefused, leftOverRefused}
 use Rattle.curve.specs.Lists.{Lists}
+use Rattle.fault.specs.Fault.{FileKind, Fault}
+use Rattle.fault.specs.Kinds.{loneRecords}
+use Rattle.job.specs.JobFormat.{jobs}
 use Rattle.domain.specs.Parameter.{parameterNumber}
 use Rattle.carrying.specs.Carrying.{onAxis, partOf}
 use Rattle.carrying.specs.declared.Axis.{Axis}
@@ -26,13 +32,32 @@ abbrev pub CompactionDetermined : Type 0
 CompactionDetermined = (m : ℕ) (c before : Lists) (held : ℕ × ℕ) → OneOutcome (CompactionHandsBack m c before held)
 
 abbrev pub RecordDetermined : Type 0
-RecordDetermined = (bytes : List ℕ) (before : Lists) (held : ℕ × ℕ) → OneOutcome (RecordHandsBack bytes before held)
+RecordDetermined = (bytes : List ℕ) (before : Lists) (held : ℕ × ℕ × ℕ) → OneOutcome (RecordHandsBack bytes before held)
 
 -- reading a job, with the list of sides as a fourth
 abbrev pub JobDetermined : Type 0
 JobDetermined =
-    (bytes : List ℕ) (before : Lists) (sidesBefore : List ℤ) (held : ℕ × ℕ × ℕ)
+    (bytes : List ℕ) (before : Lists) (sidesBefore : List ℤ) (held : ℕ × ℕ × ℕ × ℕ)
     → OneOutcome (λ (number : ℕ) (now : Lists × List ℤ). JobHandsBack bytes before sidesBefore held number (now .0) (now .1))
+
+-- 16 and 19 to 21 are told with a place
+abbrev pub toldWithPlace : ℕ → Bool
+toldWithPlace number = eqb number endedRefused || eqb number tagRefused || eqb number lengthRefused || eqb number leftOverRefused
+
+-- a number lent for the place: where the answer is one of these it holds the place of the leftmost fault, and with every other answer what it held before
+abbrev pub PlaceTold : FileKind → List ℕ → ℕ → ℕ → ℕ → Type 0
+PlaceTold kind bytes number held holds =
+    (toldWithPlace number ≡ true → Fault kind bytes number holds) × (toldWithPlace number ≡ false → holds ≡ held)
+
+abbrev pub RecordPlaceTold : Type 0
+RecordPlaceTold =
+    (bytes : List ℕ) (before : Lists) (held : ℕ × ℕ × ℕ) (number : ℕ) (now : Lists) (holds : ℕ × ℕ × ℕ)
+    → RecordHandsBack bytes before held number now holds → PlaceTold loneRecords bytes number (held .2) (holds .2)
+
+abbrev pub JobPlaceTold : Type 0
+JobPlaceTold =
+    (bytes : List ℕ) (before : Lists) (sidesBefore : List ℤ) (held : ℕ × ℕ × ℕ × ℕ) (number : ℕ) (now : Lists) (sidesNow : List ℤ) (holds : ℕ × ℕ × ℕ × ℕ)
+    → JobHandsBack bytes before sidesBefore held number now sidesNow holds → PlaceTold jobs bytes number (held .3) (holds .3)
 
 -- where nothing is refused, the entries `first` to `first` + m are inside the lists, and on either axis they are the part that the carrying call hands back
 abbrev pub FirstFindsCarrying : Type 0

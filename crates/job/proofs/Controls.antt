@@ -1,6 +1,6 @@
 -- Closed cases: a job byte by byte; the worked job, curve A with three clamps (heading "Worked by hand"), and the same with its end cut off.
 use mathlib.Core.Path.{_≡_, refl}
-use mathlib.Core.List.{List, [], _∷_}
+use mathlib.Core.List.{List, [], _∷_, _++_}
 use lib.IntN.{pos}
 use lib.ListN.{length, take}
 use Prim.Native.Nat.{ℕ}
@@ -10,16 +10,19 @@ use Rattle.grid.specs.Rows.{degreeOk, pointCountOk, knotCountOk, risesFrom, kno
 use Rattle.grid.specs.Check.{checkedThen}
 use Rattle.format.specs.Format.{form1, recordBytes}
 use Rattle.format.proofs.Controls.{curveA, line}
-use Rattle.layout.specs.Judging.{lengthOk, fieldAt, recordLayout}
-use Rattle.layout.specs.declared.Fault.the-variants.{Ended}
+use Rattle.layout.specs.Judging.{endedAt, tagAt, lengthOk, fieldAt, recordLayout}
+use Rattle.fault.specs.Verdict.{judged, broken}
 use Rattle.clamps.specs.Clamp.{Clamp, clampsOk}
 use Rattle.clamps.specs.Tail.{clampsFrom}
 use Rattle.clamps.proofs.Controls.{two}
-use Rattle.job.specs.JobFormat.{jobBytes}
+use Rattle.job.specs.JobFormat.{jobBytes, jobs}
+use Rattle.job.proofs.JobFaultLaws.{job-fault}
+use Rattle.fault.specs.Fault.{Fault}
+use Rattle.fault.proofs.FirstFieldLaws.{octets-by}
 use Rattle.job.specs.JobJudging.{jobLayout}
 use Rattle.job.specs.JobReading.{jobNumber, jobAnswer}
-use Rattle.job.specs.declared.JobAnswer.the-variants.{Job, Refused}
-use Rattle.job.specs.declared.JobLayout.the-variants.{Sound, Broken}
+use Rattle.job.specs.declared.JobAnswer.the-variants.{Job, Broken, Refused}
+use Rattle.job.specs.declared.JobLayout.the-variants.{Sound, Broken as Unsound}
 
 -- a line of three points, and two clamps behind it: x from -2 to 300 and y from -262,144 to 5; x from 7 to 8 and y from 9 to 10
 job-of-line : jobBytes form1 1 line two
@@ -57,7 +60,7 @@ alone-A : jobLayout (take 61 jobA) ≡ Sound 16 16 16 0
 unfolding jobLayout recordLayout fieldAt lengthOk clampsFrom jobA jobBytes recordBytes curveA clampsA
 alone-A = refl
 
-cut-A : jobLayout (take 117 jobA) ≡ Broken (Ended 117)
+cut-A : jobLayout (take 117 jobA) ≡ Unsound (endedAt 117)
 unfolding jobLayout recordLayout fieldAt lengthOk clampsFrom jobA jobBytes recordBytes curveA clampsA
 cut-A = refl
 
@@ -74,5 +77,14 @@ numbers : jobNumber 1 (segment 262145) crossed (segment 0) 0 ∷ jobNumber 1 (se
 unfolding jobNumber enough clampsOk rectangleOk axisOk two checkedThen degreeOk pointCountOk knotCountOk risesFrom knotOrderOk allAre endsOk occurrences repeatsMost repeatsWithin repeatsOk onGrid allOnGrid rangeOk
 numbers = refl
 
-read-or-refused : jobAnswer 0 3 4 2 ∷ jobAnswer 14 3 4 2 ∷ [] ≡ Job 3 4 2 ∷ Refused 14 ∷ []
+read-or-refused : jobAnswer (judged 0) 3 4 2 ∷ jobAnswer (judged 14) 3 4 2 ∷ jobAnswer (broken 19 61) 3 4 2 ∷ [] ≡ Job 3 4 2 ∷ Refused 14 ∷ Broken 19 61 ∷ []
 read-or-refused = refl
+
+-- the leftmost fault of the worked job with its end cut off, and with another tag behind its record
+cut-told : Fault jobs (take 117 jobA) 16 117
+unfolding jobLayout recordLayout fieldAt lengthOk clampsFrom jobA jobBytes recordBytes curveA clampsA
+cut-told = job-fault (take 117 jobA) (octets-by (take 117 jobA) refl) (endedAt 117) refl
+
+tag-told : Fault jobs (take 61 jobA ++ (6 ∷ [])) 19 61
+unfolding jobLayout recordLayout fieldAt lengthOk clampsFrom jobA jobBytes recordBytes curveA clampsA
+tag-told = job-fault (take 61 jobA ++ (6 ∷ [])) (octets-by (take 61 jobA ++ (6 ∷ [])) refl) (tagAt 61) refl

@@ -1,36 +1,32 @@
--- A job is judged sound exactly where the bytes are some lists' bytes.
-use mathlib.Core.Path.{_≡_, refl, sym, ap, _∙_}
+-- Bytes that are judged sound are the job of the lists that stand in them.
+use mathlib.Core.Path.{_≡_, refl, ap, _∙_}
 use mathlib.Core.List.{List, _++_}
 use Prim.Native.Nat.{ℕ, _+_, _≤_}
-use native.Mathlib.Nat.{zero-add}
 use native.Mathlib.Omega.{arith}
-use lib.ListN.{length, drop, length-append}
-use lib.Seq.{drop-at}
-use Rattle.curve.specs.Lists.{Lists}
+use lib.ListN.{length}
 use Rattle.grid.specs.Limits.{clampsMost}
-use Rattle.fields.specs.Bytes.{knotBytes, coordinateBytes, Octets}
+use Rattle.fields.specs.Bytes.{Octets}
 use Rattle.fields.proofs.PlaceLaws.{length-entriesAt}
 use Rattle.format.specs.Format.{form1, recordBytes}
 use Rattle.format.specs.RecordPlaces.{recordEnd}
-use Rattle.format.proofs.SizeLaws.{length-record}
 use Rattle.layout.specs.Judging.{recordLayout}
 use Rattle.layout.specs.StoredCurve.{degreeIn, curveIn}
-use Rattle.layout.specs.declared.Fault.{Fault}
+use Rattle.layout.specs.declared.Break.{Break}
 use Rattle.layout.specs.declared.Layout.{Layout}
 use Rattle.layout.specs.declared.Layout.the-variants.{Sound as Curve, Broken as NoCurve}
 use Rattle.layout.proofs.SplitLaws.{layout-inside}
-use Rattle.layout.proofs.RecordLaws.{layout-storable, layout-record, record-layout}
-use Rattle.clamps.specs.Clamp.{clampFieldBytes, Clamp, clampAt, clampsAt, clampFields}
+use Rattle.layout.proofs.RecordLaws.{layout-storable, layout-record}
+use Rattle.clamps.specs.Clamp.{clampFieldBytes, clampAt, clampsAt}
 use Rattle.clamps.specs.Tail.{clampsBehind}
 use Rattle.clamps.specs.declared.Tail.{Tail}
 use Rattle.clamps.specs.declared.Tail.the-variants.{Clamps, Broken as NoClamps}
-use Rattle.clamps.proofs.ClampLaws.{Run, clamps-known, clamps-found, clamps-fit}
+use Rattle.clamps.proofs.ClampLaws.{Run, clamps-known, clamps-fit}
 use Rattle.job.specs.JobFormat.{jobBytes, StorableJob, IsJob}
 use Rattle.job.specs.JobJudging.{withClamps, fromRecord, jobLayout}
 use Rattle.job.specs.declared.JobLayout.the-variants.{Sound, Broken}
 
 module _ (k x y n : ℕ) where
-  unsound : (fault : Fault) → Broken fault ≡ Sound k x y n → ⊥
+  pub unsound : (fault : Break) → Broken fault ≡ Sound k x y n → ⊥
   unsound fault e = let z : _≡_ {A = ℕ} 0 1 = cc in omega arith
 
   -- what a sound layout of a job says
@@ -94,22 +90,3 @@ module _ (bytes : List ℕ) (octets : Octets bytes) (k x y n : ℕ) (e : jobLayo
         storable = job-storable;
         same = job-same;
       }
-
--- some lists' bytes are judged sound
-pub job-sound : (m : ℕ) (c : Lists) (cs : List Clamp) (bytes : List ℕ) → StorableJob form1 m c cs
-    → bytes ≡ jobBytes form1 m c cs
-    → jobLayout bytes ≡ Sound (length (knotBytes (c .knots))) (length (coordinateBytes (c .xs))) (length (coordinateBytes (c .ys))) (length cs)
-unfolding jobLayout jobBytes
-job-sound m c cs bytes s e =
-    let recorded : List ℕ = recordBytes form1 m c in
-    let end : ℕ = recordEnd (length (knotBytes (c .knots))) (length (coordinateBytes (c .xs))) (length (coordinateBytes (c .ys))) in
-    let size : length recorded ≡ end = length-record form1 m c in
-    let rest : drop end bytes ≡ clampFields cs = ap (drop end) e ∙ drop-at recorded (clampFields cs) end size in
-    let inside : end ≤ length bytes = omega (arith, ap length e, length-append recorded (clampFields cs)) in
-    let tail : clampsBehind bytes end ≡ Clamps (length cs) = clamps-found bytes cs clampsMost end 0 inside rest (s .few) ∙ ap Clamps (zero-add (length cs)) in
-    rw (record-layout m c (clampFields cs) bytes (s .curve) e, tail)
-
--- bytes that are judged unsound are nobody's
-pub unsound-no-job : (bytes : List ℕ) (fault : Fault) → jobLayout bytes ≡ Broken fault → IsJob form1 bytes → ⊥
-unsound-no-job bytes fault e w =
-    unsound _ _ _ _ fault (sym e ∙ job-sound (w .m) (w .c) (w .cs) bytes (w .storable) (w .same))

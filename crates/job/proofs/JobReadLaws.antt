@@ -10,6 +10,7 @@ use Rattle.curve.specs.HandingOver.{roomNumber}
 use Rattle.curve.specs.Lists.{Lists}
 use Rattle.grid.specs.Check.{checkNumber}
 use Rattle.grid.proofs.ThenLaws.{checkedThen-refused, checkedThen-passed}
+use Rattle.fault.specs.Verdict.{Verdict, judged}
 use Rattle.clamps.specs.Clamp.{Clamp, allSides, clampsOk}
 use Rattle.job.specs.JobReading.{jobNumber, jobAnswer}
 use Rattle.job.specs.declared.JobAnswer.{JobAnswer}
@@ -39,14 +40,14 @@ module _ (m : ℕ) (c : Lists) (cs : List Clamp) (lent : Lists) (places : ℕ) w
       number-room room h r = checkedThen-passed m (c .knots) (c .xs) (c .ys) _ passes ∙ rw (upright, le-leb (length (allSides cs)) places h) (sym r)
 
 -- a refusal answers its number
-pub job-refused : (number judged m points clamps : ℕ) → judged ≡ number → (number ≡ 0 → ⊥) → Refused number ≡ jobAnswer judged m points clamps
-job-refused number judged m points clamps e n = rw (e, ne-eqb number 0 n)
+pub job-refused : (number told m points clamps : ℕ) → told ≡ number → (number ≡ 0 → ⊥) → Refused number ≡ jobAnswer (judged told) m points clamps
+job-refused number told m points clamps e n = rw (e, ne-eqb number 0 n)
 
 -- the numbers of points and clamps, counted another way
-pub job-counted : (a : JobAnswer) (number m points clamps counted many : ℕ) → a ≡ jobAnswer number m points clamps → counted ≡ points → many ≡ clamps
-    → a ≡ jobAnswer number m counted many
-job-counted a number m points clamps counted many e p q = e ∙ ap₂ (jobAnswer number m) (sym p) (sym q)
+pub job-counted : (a : JobAnswer) (verdict : Verdict) (m points clamps counted many : ℕ) → a ≡ jobAnswer verdict m points clamps → counted ≡ points → many ≡ clamps
+    → a ≡ jobAnswer verdict m counted many
+job-counted a verdict m points clamps counted many e p q = e ∙ ap₂ (jobAnswer verdict m) (sym p) (sym q)
 
 -- nothing refused: the degree, the number of points and the number of clamps
-pub job-accepted : (judged d m points clamps : ℕ) → judged ≡ 0 → d ≡ m → Job d points clamps ≡ jobAnswer judged m points clamps
-job-accepted judged d m points clamps e isM = rw (e, isM)
+pub job-accepted : (told d m points clamps : ℕ) → told ≡ 0 → d ≡ m → Job d points clamps ≡ jobAnswer (judged told) m points clamps
+job-accepted told d m points clamps e isM = rw (e, isM)

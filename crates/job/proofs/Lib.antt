@@ -1,4 +1,5 @@
 -- Laws of judging and reading a job.
+pub mod JobFaultLaws
 pub mod JobReadLaws
 pub mod JobLayoutLaws
 pub mod SentenceLaws

@@ -3,27 +3,28 @@ use mathlib.Core.List.{List}
 use mathlib.Core.Path.{refl}
 use Prim.Native.Nat.{ℕ}
 use lib.ListN.{length}
-use Rattle.refusal.proofs.ChainLaws.{Judges, accepts, refuses, passes, judged, answers-first}
+use Rattle.refusal.proofs.ChainLaws.{Judges, accepts, judged, answers-first}
 use Rattle.curve.specs.Lists.{Lists}
 use Rattle.checked.proofs.TestLaws.{fails-iff, leb-judged, both-judged, room-judged}
 use Rattle.checked.proofs.SentenceLaws.{curve-judged}
-use Rattle.format.specs.Format.{form1}
+use Rattle.fault.specs.Verdict.{Verdict, numberOf}
+use Rattle.fault.proofs.LeftOverLaws.{fault-judged, file-judged}
 use Rattle.clamps.specs.Clamp.{Clamp, allSides}
 use Rattle.clamps.proofs.SentenceLaws.{clamps-judged}
-use Rattle.job.specs.JobFormat.{IsJob}
-use Rattle.job.specs.JobReading.{jobNumber, JobComesTo, isJob, isNone}
+use Rattle.job.specs.JobFormat.{jobs}
+use Rattle.job.specs.JobReading.{jobNumber, JobComesTo, isJob, isBroken}
 use Rattle.job.specs.Sentences.{jobRows, JobAnswersFirst}
 
-job-judged : {bytes : List ℕ} {lent : Lists} {places number m : ℕ} {c : Lists} {cs : List Clamp}
-    → JobComesTo bytes lent places number m c cs → Judges number (jobRows bytes m c cs lent places)
+job-judged : {bytes : List ℕ} {lent : Lists} {places : ℕ} {verdict : Verdict} {m : ℕ} {c : Lists} {cs : List Clamp}
+    → JobComesTo bytes lent places verdict m c cs → Judges (numberOf verdict) (jobRows bytes m c cs lent places)
 unfolding jobNumber
 job-judged {bytes = bytes} {lent = lent} {places = places} (isJob w) =
-    passes (λ (nobody : IsJob form1 bytes → ⊥). nobody w)
+    file-judged jobs bytes w
     (curve-judged (w .m) (w .c .knots) (w .c .xs) (w .c .ys) _ _ λ passing.
     judged (fails-iff (clamps-judged (w .cs))) λ right.
     judged (fails-iff (both-judged (leb-judged (length (allSides (w .cs))) places) (room-judged (w .c) lent))) λ room.
     accepts)
-job-judged (isNone nobody m c cs) = refuses nobody
+job-judged {bytes = bytes} (isBroken fault m c cs) = fault-judged jobs bytes _ fault
 
 pub job-answers : JobAnswersFirst
-job-answers bytes lent places number m c cs comes = answers-first number (jobRows bytes m c cs lent places) refl (job-judged comes)
+job-answers bytes lent places verdict m c cs comes = answers-first (numberOf verdict) (jobRows bytes m c cs lent places) refl (job-judged comes)

@@ -5,7 +5,8 @@ use Prim.Native.Nat.{ℕ, _≤_}
 use lib.ListN.{length, getD}
 use Rattle.grid.specs.Limits.{clampsMost}
 use Rattle.curve.specs.Lists.{Lists}
-use Rattle.format.specs.Format.{KnotsForm, recordBytes, Storable}
+use Rattle.format.specs.Format.{KnotsForm, form1, recordBytes, Storable}
+use Rattle.fault.specs.Fault.{FileKind}
 use Rattle.clamps.specs.Clamp.{Clamp, ClampFits, noClamp, clampFields}
 
 unfoldable pub jobBytes : KnotsForm → ℕ → Lists → List Clamp → List ℕ  -- a record and the clamps behind it
@@ -23,3 +24,10 @@ pub record IsJob (form : KnotsForm) (bytes : List ℕ) : Type 0 where  -- bytes 
   pub cs : List Clamp
   pub storable : StorableJob form m c cs
   pub same : bytes ≡ jobBytes form m c cs
+
+pub record FullJob (form : KnotsForm) (bytes : List ℕ) : Type 0 where  -- a job with as many clamps as a job may have
+  pub job : IsJob form bytes
+  pub many : length (job .cs) ≡ clampsMost
+
+abbrev pub jobs : FileKind  -- no field follows the last clamp that a job may have
+jobs = record { Is = IsJob form1; Full = FullJob form1 }

@@ -8,15 +8,17 @@ use lib.IntN.{ℤ}
 use lib.ListN.{length}
 use Rattle.lent.specs.Lent.{after}
 use Rattle.refusal.specs.Judging.{unless, answered}
-use Rattle.refusal.specs.Numbers.{accepted, rectangleRefused, roomRefused, bytesRefused}
+use Rattle.refusal.specs.Numbers.{accepted, rectangleRefused, roomRefused}
 use Rattle.curve.specs.HandingOver.{roomFor, handedOver}
 use Rattle.curve.specs.Lists.{Lists}
 use Rattle.grid.specs.Check.{checkedThen}
 use Rattle.format.specs.Format.{form1}
 use Rattle.clamps.specs.Clamp.{Clamp, allSides, clampsOk}
-use Rattle.job.specs.JobFormat.{IsJob}
+use Rattle.fault.specs.Fault.{Fault}
+use Rattle.fault.specs.Verdict.{Verdict, judged, broken, numberOf}
+use Rattle.job.specs.JobFormat.{IsJob, jobs}
 use Rattle.job.specs.declared.JobAnswer.{JobAnswer}
-use Rattle.job.specs.declared.JobAnswer.the-variants.{Job, Refused}
+use Rattle.job.specs.declared.JobAnswer.the-variants.{Job, Broken, Refused}
 
 -- row 15: the list of sides has four places a clamp, and the curve's three lists have room
 abbrev pub jobRoomFor : Lists → List Clamp → Lists → ℕ → Bool
@@ -28,23 +30,25 @@ jobNumber m c cs lent places =
     checkedThen m (c .knots) (c .xs) (c .ys)
     (unless (clampsOk cs) rectangleRefused (unless (jobRoomFor c cs lent places) roomRefused accepted))
 
-abbrev pub jobAnswer : ℕ → ℕ → ℕ → ℕ → JobAnswer  -- degree, number of points and number of clamps, or the number of the refusal
-jobAnswer number m points clamps = answered (Job m points) Refused number clamps
+-- degree, number of points and number of clamps, or the number of the refusal; of broken bytes number and place
+abbrev pub jobAnswer : Verdict → ℕ → ℕ → ℕ → JobAnswer
+jobAnswer (judged number) m points clamps = answered (Job m points) Refused number clamps
+jobAnswer (broken number place) m points clamps = Broken number place
 
--- what bytes come to, with these lists lent and `places` places for sides: a number, a degree, a curve's lists and clamps
-pub data JobComesTo (bytes : List ℕ) (lent : Lists) (places : ℕ) : ℕ → ℕ → Lists → List Clamp → Type 0 where
+-- what bytes come to, with these lists lent and `places` places for sides: a verdict, a degree, a curve's lists and clamps
+pub data JobComesTo (bytes : List ℕ) (lent : Lists) (places : ℕ) : Verdict → ℕ → Lists → List Clamp → Type 0 where
   -- they are the job of some lists and clamps
-  isJob : (w : IsJob form1 bytes) → JobComesTo bytes lent places (jobNumber (w .m) (w .c) (w .cs) lent places) (w .m) (w .c) (w .cs)
-  -- they are nobody's: 16
-  isNone : (IsJob form1 bytes → ⊥) → (m : ℕ) (c : Lists) (cs : List Clamp) → JobComesTo bytes lent places bytesRefused m c cs
+  isJob : (w : IsJob form1 bytes) → JobComesTo bytes lent places (judged (jobNumber (w .m) (w .c) (w .cs) lent places)) (w .m) (w .c) (w .cs)
+  -- they are nobody's: their leftmost fault is told
+  isBroken : {number place : ℕ} → Fault jobs bytes number place → (m : ℕ) (c : Lists) (cs : List Clamp) → JobComesTo bytes lent places (broken number place) m c cs
 
 -- the answer, the lent lists and the list of sides follow from these
 pub record JobRead (bytes : List ℕ) (before : Lists) (sidesBefore : List ℤ) (answer : JobAnswer) (now : Lists) (sidesNow : List ℤ) : Type 0 where
-  pub number : ℕ
+  pub verdict : Verdict
   pub m : ℕ
   pub c : Lists
   pub cs : List Clamp
-  pub comesTo : JobComesTo bytes before (length sidesBefore) number m c cs
-  pub answers : answer ≡ jobAnswer number m (length (c .xs)) (length cs)
-  pub hands : now ≡ handedOver number c before
-  pub clampsNow : sidesNow ≡ after number (allSides cs) sidesBefore
+  pub comesTo : JobComesTo bytes before (length sidesBefore) verdict m c cs
+  pub answers : answer ≡ jobAnswer verdict m (length (c .xs)) (length cs)
+  pub hands : now ≡ handedOver (numberOf verdict) c before
+  pub clampsNow : sidesNow ≡ after (numberOf verdict) (allSides cs) sidesBefore

@@ -10,6 +10,7 @@ use Rattle.curve.specs.Lists.{Lists}
 use Rattle.format.specs.RecordPlaces.{recordEnd}
 use Rattle.layout.specs.StoredCurve.{degreeIn, curveIn}
 use Rattle.clamps.specs.Clamp.{Clamp, clampsAt, allSides}
+use Rattle.fault.specs.Verdict.{judged}
 use Rattle.job.specs.JobReading.{jobNumber, jobAnswer}
 use Rattle.job.specs.declared.JobAnswer.{JobAnswer}
 
@@ -22,6 +23,6 @@ storedNumber bytes k x y n lent places = jobNumber (degreeIn bytes) (curveIn byt
 
 -- by the number
 pub record StoredRead (bytes : List ℕ) (k x y n : ℕ) (before : Lists) (sidesBefore : List ℤ) (answer : JobAnswer) (now : Lists) (sidesNow : List ℤ) : Type 0 where
-  pub answers : answer ≡ jobAnswer (storedNumber bytes k x y n before (length sidesBefore)) (degreeIn bytes) (x / 4) n
+  pub answers : answer ≡ jobAnswer (judged (storedNumber bytes k x y n before (length sidesBefore))) (degreeIn bytes) (x / 4) n
   pub hands : now ≡ handedOver (storedNumber bytes k x y n before (length sidesBefore)) (curveIn bytes k x y) before
   pub clampsNow : sidesNow ≡ after (storedNumber bytes k x y n before (length sidesBefore)) (allSides (clampsIn bytes k x y n)) sidesBefore

@@ -2,7 +2,7 @@
 mod sound;
 
 use clamps::Tail;
-use layout::Fault;
+use layout::Break;
 use layout::Layout;
 ghost use mathlib.Core.Path.{_≡_};
 ghost use Rattle.curve.specs.Lists.{lists};
@@ -17,15 +17,20 @@ pub enum JobLayout {
         ys: usize,
         clamps: usize,
     },
-    Broken(Fault),
+    Broken(Break),
 }
 
-// Degree, number of points and number of clamps of a job that was read, or why there is none.
+// Degree, number of points and number of clamps of a job that was read. Or where the bytes break, with the number of refusal and the place; or
+// the number alone.
 pub enum JobAnswer {
     Job {
         degree: u32,
         points: usize,
         clamps: usize,
+    },
+    Broken {
+        number: u32,
+        place: usize,
     },
     Refused(u32),
 }
@@ -81,6 +86,9 @@ pub fn read_job(
                 clamps,
             )
         }
-        JobLayout::Broken(_) => JobAnswer::Refused(refusal::BYTES),
+        JobLayout::Broken(found) => JobAnswer::Broken {
+            number: found.number,
+            place: found.place,
+        },
     }
 }

@@ -13,7 +13,7 @@ use Rattle.refusal.specs.Numbers.{accepted, rectangleRefused}
 use Rattle.refusal.proofs.JudgingLaws.{unless-accepted}
 use Rattle.lent.specs.Lent.{over}
 use Rattle.lent.proofs.OverLaws.{over-result}
-use Rattle.curve.specs.Lists.{Lists, lists}
+use Rattle.curve.specs.Lists.{Lists}
 use Rattle.curve.specs.HandingOver.{handedOver}
 use Rattle.curve.proofs.ListLaws.{lists-same}
 use Rattle.curve.proofs.RoomLaws.{enough-all}

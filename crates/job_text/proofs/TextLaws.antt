@@ -12,6 +12,7 @@ use Rattle.lent.specs.Lent.{after}
 use Rattle.curve.specs.Lists.{Lists}
 use Rattle.curve.specs.HandingOver.{handedOver}
 use Rattle.format.specs.Format.{form1}
+use Rattle.fault.specs.Verdict.{Verdict, judged, numberOf}
 use Rattle.clamps.specs.Clamp.{Clamp, allSides}
 use Rattle.job.specs.JobFormat.{StorableJob}
 use Rattle.job.specs.JobReading as reading
@@ -27,12 +28,12 @@ use Rattle.job_text.proofs.RoomLaws.{number-same}
 -- the part of a job, by its number
 module _ (m : ℕ) (c : Lists) (cs : List Clamp) (before : Lists) (sidesBefore : List ℤ) (k : ℕ) (few : StorableJob form1 m c cs) where
   job-part : (number : ℕ) → number ≡ textNumber m c cs
-      → answerPart (jobAnswer number m (length (c .xs)) (length cs)) (handedOver number c before) (after number (allSides cs) sidesBefore) k ≡ partOf m c cs k
+      → answerPart (jobAnswer (judged number) m (length (c .xs)) (length cs)) (handedOver number c before) (after number (allSides cs) sidesBefore) k ≡ partOf m c cs k
   unfolding partOf
   job-part number e = by (eqb number accepted) refl
     where
       by : (t : Bool) → eqb number accepted ≡ t
-          → answerPart (jobAnswer number m (length (c .xs)) (length cs)) (handedOver number c before) (after number (allSides cs) sidesBefore) k ≡ partOf m c cs k
+          → answerPart (jobAnswer (judged number) m (length (c .xs)) (length cs)) (handedOver number c before) (after number (allSides cs) sidesBefore) k ≡ partOf m c cs k
       by true z =
           let none : number ≡ 0 = eqb-true number accepted z in
           let text-none : textNumber m c cs ≡ 0 = sym e ∙ none in
@@ -40,17 +41,17 @@ module _ (m : ℕ) (c : Lists) (cs : List Clamp) (before : Lists) (sidesBefore :
       by false z = rw (z, sym e, z)
 
 from-cases : (bytes : List ℕ) (before : Lists) (sidesBefore : List ℤ) (k : ℕ) → Places before sidesBefore
-    → (number m : ℕ) (c : Lists) (cs : List Clamp) → JobComesTo bytes before (length sidesBefore) number m c cs
-    → PartOf bytes k (answerPart (jobAnswer number m (length (c .xs)) (length cs)) (handedOver number c before) (after number (allSides cs) sidesBefore) k)
-from-cases bytes before sidesBefore k p number m c cs (reading.isJob w) =
+    → (verdict : Verdict) (m : ℕ) (c : Lists) (cs : List Clamp) → JobComesTo bytes before (length sidesBefore) verdict m c cs
+    → PartOf bytes k (answerPart (jobAnswer verdict m (length (c .xs)) (length cs)) (handedOver (numberOf verdict) c before) (after (numberOf verdict) (allSides cs) sidesBefore) k)
+from-cases bytes before sidesBefore k p verdict m c cs (reading.isJob w) =
     text.isJob w (job-part (w .m) (w .c) (w .cs) before sidesBefore k (w .storable) (jobNumber (w .m) (w .c) (w .cs) before (length sidesBefore)) (number-same (w .m) (w .c) (w .cs) before sidesBefore (w .storable) p))
-from-cases bytes before sidesBefore k p number m c cs (reading.isNone nobody n d ds) = text.isNone nobody refl
+from-cases bytes before sidesBefore k p verdict m c cs (reading.isBroken fault n d ds) = text.isBroken fault refl
 
 pub parts-are-the-text : PartsAreTheText
 parts-are-the-text bytes answer now sides k places r room =
     let h = r .read in
     rw (le-leb textMost places room, h .answers, h .hands, h .clampsNow)
-    (from-cases bytes (r .before) (r .sidesBefore) k (r .places) (h .number) (h .m) (h .c) (h .cs) (h .comesTo))
+    (from-cases bytes (r .before) (r .sidesBefore) k (r .places) (h .verdict) (h .m) (h .c) (h .cs) (h .comesTo))
 
 pub written-is-text : WrittenIsText
 written-is-text bytes answer now sides places r room =

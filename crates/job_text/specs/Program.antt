@@ -6,6 +6,9 @@ use lib.IntN.{ℤ}
 use lib.ListN.{length}
 use Rattle.curve.specs.Lists.{Lists}
 use Rattle.grid.specs.Limits.{pointsMost, knotsMost, clampsMost, sidesMost}
+use Rattle.lines.specs.Lines.{brokenLine}
+use Rattle.fault.specs.Fault.{Fault}
+use Rattle.job.specs.JobFormat.{jobs}
 use Rattle.job.specs.JobReading.{JobRead}
 use Rattle.job.specs.declared.JobAnswer.{JobAnswer}
 use Rattle.clamp_lines.specs.Places.{textMost}
@@ -37,6 +40,11 @@ abbrev pub WrittenIsText : Type 0
 WrittenIsText =
     (bytes : List ℕ) (answer : JobAnswer) (now : Lists) (sides : List ℤ) (places : ℕ)
     → ReadInPlaces bytes answer now sides → textMost ≤ places → TextOf bytes (joined (λ k. partPut answer now sides k places) (clampsMost + 1))
+
+-- the text of bytes that are no job is one line, with the number and the place of their leftmost fault
+abbrev pub BrokenIsOneLine : Type 0
+BrokenIsOneLine =
+    (bytes text : List ℕ) (number place : ℕ) → Fault jobs bytes number place → TextOf bytes text → text ≡ brokenLine number place
 
 -- bytes have one text, and one part k
 abbrev pub OneText : Type 0

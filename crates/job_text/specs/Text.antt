@@ -7,16 +7,17 @@ use Prim.Native.Nat.{ℕ, zero, suc, _+_}
 use lib.Dec.{eqb, ltb}
 use lib.ListN.{length, getD}
 use Rattle.refusal.specs.Judging.{unless}
-use Rattle.refusal.specs.Numbers.{accepted, rectangleRefused, bytesRefused}
+use Rattle.refusal.specs.Numbers.{accepted, rectangleRefused}
 use Rattle.curve.specs.Lists.{Lists}
 use Rattle.grid.specs.Limits.{clampsMost}
 use Rattle.grid.specs.Check.{checkedThen}
 use Rattle.boxes.specs.declared.Rectangle.{Rectangle}
 use Rattle.format.specs.Format.{form1}
+use Rattle.fault.specs.Fault.{Fault}
 use Rattle.clamps.specs.Clamp.{Clamp, noClamp, clampsOk}
-use Rattle.job.specs.JobFormat.{IsJob}
+use Rattle.job.specs.JobFormat.{IsJob, jobs}
 use Rattle.clamp_lines.specs.ClampPart.{clampLines}
-use Rattle.report.specs.Part.{curveText, refusedPart}
+use Rattle.report.specs.Part.{curveText, refusedPart, brokenPart}
 
 -- a job's clamp as the rectangle that the list call takes
 abbrev pub rectangleOf : Clamp → Rectangle
@@ -36,10 +37,10 @@ textNumber m c cs = checkedThen m (c .knots) (c .xs) (c .ys) (unless (clampsOk c
 unfoldable pub partOf : ℕ → Lists → List Clamp → ℕ → List ℕ
 partOf m c cs k = cond (eqb (textNumber m c cs) accepted) (acceptedPart m c cs k) (refusedPart (textNumber m c cs) k)
 
--- part k of the text of some bytes: that of the job that they are, or of refusal 16 where they are nobody's
+-- part k of the text of some bytes: that of the job that they are, or of their leftmost fault where they are nobody's
 pub data PartOf (bytes : List ℕ) (k : ℕ) (part : List ℕ) : Type 0 where
   isJob : (w : IsJob form1 bytes) → part ≡ partOf (w .m) (w .c) (w .cs) k → PartOf bytes k part
-  isNone : (IsJob form1 bytes → ⊥) → part ≡ refusedPart bytesRefused k → PartOf bytes k part
+  isBroken : {number place : ℕ} → Fault jobs bytes number place → part ≡ brokenPart number place k → PartOf bytes k part
 
 -- the first n parts, in their order
 unfoldable pub joined : (ℕ → List ℕ) → ℕ → List ℕ

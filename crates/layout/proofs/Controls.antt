@@ -3,9 +3,8 @@ use mathlib.Core.Path.{_≡_, refl}
 use mathlib.Core.List.{[], _∷_, _++_}
 use lib.ListN.{take}
 use Rattle.format.proofs.Controls.{bytesA, line, lineBytes}
-use Rattle.layout.specs.Judging.{lengthOk, fieldAt, recordLayout, wholeRecord}
+use Rattle.layout.specs.Judging.{endedAt, tagAt, lengthAt, leftOverAt, lengthOk, fieldAt, recordLayout, wholeRecord}
 use Rattle.layout.specs.StoredCurve.{degreeIn, curveIn}
-use Rattle.layout.specs.declared.Fault.the-variants.{Ended, Tag, Length, LeftOver}
 use Rattle.layout.specs.declared.Layout.the-variants.{Sound, Broken}
 
 -- the record of curve A
@@ -14,30 +13,30 @@ unfolding wholeRecord recordLayout fieldAt lengthOk bytesA
 whole-A = refl
 
 -- one byte more, and one byte fewer
-left-over : wholeRecord (bytesA ++ (0 ∷ [])) ≡ Broken (LeftOver 61)
+left-over : wholeRecord (bytesA ++ (0 ∷ [])) ≡ Broken (leftOverAt 61)
 unfolding wholeRecord recordLayout fieldAt lengthOk bytesA
 left-over = refl
 
-ended : wholeRecord (take 60 bytesA) ≡ Broken (Ended 60)
+ended : wholeRecord (take 60 bytesA) ≡ Broken (endedAt 60)
 unfolding wholeRecord recordLayout fieldAt lengthOk bytesA
 ended = refl
 
 -- nothing at all
-nothing : wholeRecord [] ≡ Broken (Ended 0)
+nothing : wholeRecord [] ≡ Broken (endedAt 0)
 unfolding wholeRecord recordLayout fieldAt lengthOk
 nothing = refl
 
 -- a tag that does not belong there, a degree of two bytes
-wrong-tag : wholeRecord (1 ∷ 1 ∷ 0 ∷ 3 ∷ 9 ∷ []) ≡ Broken (Tag 4)
+wrong-tag : wholeRecord (1 ∷ 1 ∷ 0 ∷ 3 ∷ 9 ∷ []) ≡ Broken (tagAt 4)
 unfolding wholeRecord recordLayout fieldAt lengthOk
 wrong-tag = refl
 
-wrong-length : wholeRecord (1 ∷ 2 ∷ 0 ∷ []) ≡ Broken (Length 1)
+wrong-length : wholeRecord (1 ∷ 2 ∷ 0 ∷ []) ≡ Broken (lengthAt 1)
 unfolding wholeRecord recordLayout fieldAt lengthOk
 wrong-length = refl
 
 -- the end between two bytes of a length, though no length that begins so is right
-between : wholeRecord (1 ∷ 2 ∷ []) ≡ Broken (Ended 2)
+between : wholeRecord (1 ∷ 2 ∷ []) ≡ Broken (endedAt 2)
 unfolding wholeRecord recordLayout fieldAt lengthOk
 between = refl
 

@@ -1,35 +1,23 @@
--- A layout is sound exactly where the bytes begin with some lists' bytes, and then these lists are the ones that stand at its places.
+-- Where a layout is sound, the bytes begin with the record of the lists that stand at its places.
 use mathlib.Core.Path.{_≡_, refl, sym, ap, _∙_}
 use mathlib.Core.List.{List, [], _∷_, _++_}
-use Prim.Native.Nat.{ℕ, _+_, _*_, _/_, _%_, _≤_, zero-le}
+use Prim.Native.Nat.{ℕ, _+_, _*_, _/_, _%_, _≤_}
 use native.Mathlib.Omega.{arith}
-use lib.Dec.{lit<, lit≤}
 use lib.ListN.{length, take, drop}
-use lib.Seq.{drop-cons, drop-drop, drop-at}
-use borrow.Author.Tests.{eqb-false}
+use lib.Seq.{drop-cons}
 use Rattle.fields.specs.Bytes.{fieldBytes, knotBytes, coordinateBytes, Octets}
 use Rattle.fields.specs.Places.{u16At, i32At, coordinatesAt}
 use Rattle.fields.proofs.PlaceLaws.{length-entriesAt}
-use Rattle.curve.specs.Lists.{Lists}
 use Rattle.format.specs.Format.{form1, degreeTag, knotsTag, xTag, yTag, recordBytes, Storable}
 use Rattle.format.specs.RecordPlaces.{degreePlace, knotsField, beforeKnots, xField, xPlace, yField, yPlace, recordEnd}
 use Rattle.format.proofs.EntryLaws.{knots-exact, coordinates-exact, knots-small, coordinates-fit}
 use Rattle.format.proofs.InjectiveLaws.{record-grouped}
 use Rattle.format.proofs.SizeLaws.{length-knots, length-coordinates}
 use Rattle.layout.specs.StoredCurve.{degreeIn, curveIn}
-use Rattle.layout.specs.Judging.{fieldAt, degreeRule, knotsRule, xRule, yRule, fromX, fromY, recordLayout}
+use Rattle.layout.specs.Judging.{degreeRule, knotsRule, xRule, yRule, recordLayout}
 use Rattle.layout.specs.declared.Rule.{Rule}
 use Rattle.layout.specs.declared.Layout.the-variants.{Sound}
-use Rattle.layout.specs.declared.Taken.the-variants.{Field}
-use Rattle.layout.proofs.SplitLaws.{Whole, Laid, layout-known, layout-within, field-split, field-found, length-whole, length-right}
-
--- what follows a field, by its place
-pub behind : (at next tag : ℕ) (bytes contents rest : List ℕ) → next ≡ at + (3 + length contents) → drop at bytes ≡ fieldBytes tag contents ++ rest → drop next bytes ≡ rest
-behind at next tag bytes contents rest n e =
-    ap (λ (p : ℕ). drop p bytes) n
-    ∙ sym (drop-drop (3 + length contents) at bytes)
-    ∙ ap (drop (3 + length contents)) e
-    ∙ drop-at (fieldBytes tag contents) rest (3 + length contents) (omega arith)
+use Rattle.layout.proofs.SplitLaws.{Whole, Laid, layout-known, layout-within, field-split, length-whole}
 
 module _ (bytes : List ℕ) (octets : Octets bytes) (k x y : ℕ) (e : recordLayout bytes ≡ Sound k x y) where
   laid : Laid bytes k x y
@@ -96,27 +84,3 @@ module _ (bytes : List ℕ) (octets : Octets bytes) (k x y : ℕ) (e : recordLay
       ∙ ap (λ (l : List ℕ). fieldBytes knotsTag (knotBytes (curveIn bytes k x y .knots)) ++ l)
       (three ∙ ap (λ (l : List ℕ). fieldBytes xTag (coordinateBytes (curveIn bytes k x y .xs)) ++ l) four))
       ∙ sym (record-grouped form1 (degreeIn bytes) (curveIn bytes k x y) (drop (recordEnd k x y) bytes))
-
--- bytes that begin with some lists' bytes: their layout is sound, with these lists' lengths
-pub record-layout : (m : ℕ) (c : Lists) (rest bytes : List ℕ) → Storable form1 m c → bytes ≡ recordBytes form1 m c ++ rest
-    → recordLayout bytes ≡ Sound (length (knotBytes (c .knots))) (length (coordinateBytes (c .xs))) (length (coordinateBytes (c .ys)))
-unfolding recordLayout
-record-layout m c rest bytes s e =
-    let ts = c .knots in
-    let xs = c .xs in
-    let ys = c .ys in
-    let k : ℕ = length (knotBytes ts) in
-    let x : ℕ = length (coordinateBytes xs) in
-    let y : ℕ = length (coordinateBytes ys) in
-    let fromY : List ℕ = fieldBytes yTag (coordinateBytes ys) ++ rest in
-    let fromX : List ℕ = fieldBytes xTag (coordinateBytes xs) ++ fromY in
-    let fromK : List ℕ = fieldBytes knotsTag (knotBytes ts) ++ fromX in
-    let one : drop 0 bytes ≡ fieldBytes degreeTag (m ∷ []) ++ fromK = e ∙ record-grouped form1 m c rest in
-    let two : drop knotsField bytes ≡ fromK = ap (drop knotsField) one in
-    let three : drop (xField k) bytes ≡ fromX = behind knotsField (xField k) knotsTag bytes (knotBytes ts) fromX (omega arith) two in
-    let four : drop (yField k x) bytes ≡ fromY = behind (xField k) (yField k x) xTag bytes (coordinateBytes xs) fromY (omega arith) three in
-    let degree : fieldAt degreeRule bytes 0 ≡ Field 1 = field-found degreeRule bytes (m ∷ []) fromK 0 (lit< tt) (length-right degreeRule 1 (lit≤ tt) (lit≤ tt) (eqb-false 1 0 refl) refl) one in
-    let knots : fieldAt knotsRule bytes knotsField ≡ Field k = field-found knotsRule bytes (knotBytes ts) fromX knotsField (omega (arith, s .knotRoom)) (length-right knotsRule k zero-le (s .knotRoom) (eqb-false 2 0 refl) (omega (arith, length-knots ts))) two in
-    let onX : fieldAt xRule bytes (xField k) ≡ Field x = field-found xRule bytes (coordinateBytes xs) fromY (xField k) (omega (arith, s .xRoom)) (length-right xRule x zero-le (s .xRoom) (eqb-false 4 0 refl) (omega (arith, length-coordinates xs))) three in
-    let onY : fieldAt yRule bytes (yField k x) ≡ Field y = field-found yRule bytes (coordinateBytes ys) rest (yField k x) (omega (arith, s .yRoom)) (length-right yRule y zero-le (s .yRoom) (eqb-false 4 0 refl) (omega (arith, length-coordinates ys))) four in
-    rw (degree, knots, onX, onY)

@@ -1,36 +1,34 @@
--- A field is taken exactly where the bytes from its place on are a field's bytes of a right length, and then anything.
+-- Where a field is taken, the bytes from its place on are a field's bytes of a right length, and then anything.
 use mathlib.Core.Bool.{Bool, true, false, cond, not, _&&_}
 use mathlib.Core.Path.{_≡_, refl, sym, ap, _∙_, subst, subst₂, subst₃}
 use mathlib.Core.List.{List, _∷_, _++_}
-use Prim.Native.Nat.{ℕ, suc, _+_, _*_, _-_, _/_, _%_, _<_, _≤_}
-use native.Mathlib.Nat.{add-zero}
+use Prim.Native.Nat.{ℕ, suc, _+_, _*_, _-_, _/_, _%_, _≤_}
 use native.Mathlib.Numerals.{add-one, add-two, add-three}
 use native.Mathlib.Omega.{arith}
 use lib.Dec.{leb, ltb, eqb}
-use lib.ListN.{length, getD, take, drop, length-append, length-drop, take-append-drop}
-use lib.Seq.{drop-cons, drop-drop, getD-drop, length-take-le}
+use lib.ListN.{length, getD, take, drop, length-drop, take-append-drop}
+use lib.Seq.{drop-cons, drop-drop, length-take-le}
 use borrow.Author.Tests.{leb-true, ltb-false, eqb-true, eq-eqb, not-false}
 use Rattle.fields.specs.Bytes.{fieldBytes, Octets}
 use Rattle.fields.specs.Places.{u16At}
 use Rattle.refusal.proofs.JudgingLaws.{both}
 use Rattle.grid.specs.Limits.{knotBytesMost, coordinateBytesMost}
 use Rattle.format.specs.RecordPlaces.{knotsField, xField, yField, recordEnd}
-use Rattle.layout.specs.Judging.{lengthOk, wholeEntries, fieldAt, thenField, degreeRule, knotsRule, xRule, yRule, fromKnots, fromX, fromY, recordLayout}
+use Rattle.layout.specs.Judging.{endedAt, tagAt, lengthAt, lengthOk, wholeEntries, fieldAt, thenField, degreeRule, knotsRule, xRule, yRule, fromKnots, fromX, fromY, recordLayout}
 use Rattle.layout.specs.declared.Rule.{Rule}
-use Rattle.layout.specs.declared.Fault.{Fault}
-use Rattle.layout.specs.declared.Fault.the-variants.{Ended, Tag, Length}
+use Rattle.layout.specs.declared.Break.{Break}
 use Rattle.layout.specs.declared.Taken.{Taken}
 use Rattle.layout.specs.declared.Taken.the-variants.{Field, Broken}
 use Rattle.layout.specs.declared.Layout.{Layout}
 use Rattle.layout.specs.declared.Layout.the-variants.{Sound, Broken as Unsound}
 use Rattle.format.proofs.EntryLaws.{pair-low, pair-high}
-use Rattle.layout.proofs.TakeLaws.{length-entries, field-whole}
+use Rattle.layout.proofs.TakeLaws.{length-entries}
 
-broken-field : (fault : Fault) (len : ℕ) → Broken fault ≡ Field len → ⊥
+pub broken-field : (fault : Break) (len : ℕ) → Broken fault ≡ Field len → ⊥
 broken-field fault len e = let z : _≡_ {A = ℕ} 0 1 = cc in omega arith
 
 -- a test that gives a fault has failed, where a field was taken
-past : (b : Bool) (fault : Fault) (next : Taken) (len : ℕ) → cond b (Broken fault) next ≡ Field len → (b ≡ false) × (next ≡ Field len)
+past : (b : Bool) (fault : Break) (next : Taken) (len : ℕ) → cond b (Broken fault) next ≡ Field len → (b ≡ false) × (next ≡ Field len)
 past true fault next len e = absurd (broken-field fault len e)
 past false fault next len e = (refl, e)
 
@@ -46,15 +44,15 @@ unfolding fieldAt
 field-known rule bytes at len e =
     let n : ℕ = length bytes in
     let size : ℕ = u16At bytes (at + 1) in
-    let whole : Taken = cond (ltb n (at + 3 + size)) (Broken (Ended n)) (Field size) in
-    let sized : Taken = cond (not (lengthOk rule size)) (Broken (Length (at + 1))) whole in
-    let headed : Taken = cond (ltb n (at + 3)) (Broken (Ended n)) sized in
-    let tagged : Taken = cond (not (eqb (getD bytes at 0) (rule .tag))) (Broken (Tag at)) headed in
-    let a = past (leb n at) (Ended n) tagged len e in
-    let b = past (not (eqb (getD bytes at 0) (rule .tag))) (Tag at) headed len (a .1) in
-    let c = past (ltb n (at + 3)) (Ended n) sized len (b .1) in
-    let d = past (not (lengthOk rule size)) (Length (at + 1)) whole len (c .1) in
-    let f = past (ltb n (at + 3 + size)) (Ended n) (Field size) len (d .1) in
+    let whole : Taken = cond (ltb n (at + 3 + size)) (Broken (endedAt n)) (Field size) in
+    let sized : Taken = cond (not (lengthOk rule size)) (Broken (lengthAt (at + 1))) whole in
+    let headed : Taken = cond (ltb n (at + 3)) (Broken (endedAt n)) sized in
+    let tagged : Taken = cond (not (eqb (getD bytes at 0) (rule .tag))) (Broken (tagAt at)) headed in
+    let a = past (leb n at) (endedAt n) tagged len e in
+    let b = past (not (eqb (getD bytes at 0) (rule .tag))) (tagAt at) headed len (a .1) in
+    let c = past (ltb n (at + 3)) (endedAt n) sized len (b .1) in
+    let d = past (not (lengthOk rule size)) (lengthAt (at + 1)) whole len (c .1) in
+    let f = past (ltb n (at + 3 + size)) (endedAt n) (Field size) len (d .1) in
     let is : size ≡ len = cc (f .1) in
     record {
       tag = eqb-true (getD bytes at 0) (rule .tag) (not-false _ (b .0));
@@ -88,7 +86,7 @@ pub field-most : (rule : Rule) (bytes : List ℕ) (at len : ℕ) → fieldAt rul
 field-most rule bytes at len e = length-most rule len (field-known rule bytes at len e .right)
 
 -- the three bytes of a field's head, and what follows
-three-ahead : (bytes : List ℕ) (at : ℕ) → at + 3 ≤ length bytes
+pub three-ahead : (bytes : List ℕ) (at : ℕ) → at + 3 ≤ length bytes
     → drop at bytes ≡ getD bytes at 0 ∷ getD bytes (at + 1) 0 ∷ getD bytes (at + 2) 0 ∷ drop (at + 3) bytes
 three-ahead bytes at h =
     rw (add-one at, add-two at, add-three at)
@@ -118,21 +116,6 @@ field-split rule bytes at len octets whole =
     ∙ ap (λ (b : ℕ). rule .tag ∷ b ∷ high ∷ (contents ++ drop (at + 3 + len) bytes)) isLow
     ∙ ap (λ (b : ℕ). rule .tag ∷ length contents % 256 ∷ b ∷ (contents ++ drop (at + 3 + len) bytes)) isHigh
 
--- bytes that are a field's from a place on: that field is taken there
-pub field-found : (rule : Rule) (bytes contents rest : List ℕ) (at : ℕ) → length contents < 65536 → lengthOk rule (length contents) ≡ true
-    → drop at bytes ≡ fieldBytes (rule .tag) contents ++ rest → fieldAt rule bytes at ≡ Field (length contents)
-field-found rule bytes contents rest at short right e =
-    let n : ℕ = length contents in
-    let shown : (i : ℕ) → getD (drop at bytes) i 0 ≡ getD (fieldBytes (rule .tag) contents ++ rest) i 0 = λ i. ap (λ (l : List ℕ). getD l i 0) e in
-    let there : (i : ℕ) → getD bytes (at + i) 0 ≡ getD (fieldBytes (rule .tag) contents ++ rest) i 0 = λ i. sym (getD-drop at bytes i 0) ∙ shown i in
-    let count : length bytes - at ≡ 3 + n + length rest = sym (length-drop at bytes) ∙ ap length e ∙ simp length-append (omega arith) in
-    let tag : getD bytes at 0 ≡ rule .tag = ap (λ (k : ℕ). getD bytes k 0) (sym (add-zero at)) ∙ there 0 in
-    let next : at + 1 + 1 ≡ at + 2 = omega arith in
-    let low : getD bytes (at + 1) 0 ≡ n % 256 = there 1 in
-    let high : getD bytes (at + 1 + 1) 0 ≡ n / 256 % 256 = ap (λ (k : ℕ). getD bytes k 0) next ∙ there 2 in
-    let size : u16At bytes (at + 1) ≡ n = omega arith in
-    field-whole rule bytes at (omega arith) tag (omega arith) (ap (lengthOk rule) size ∙ right) (omega arith) ∙ ap Field size
-
 -- what is known where a record's fields were taken
 pub record Laid (bytes : List ℕ) (k x y : ℕ) : Type 0 where
   pub degree : Whole degreeRule bytes 0 1
@@ -141,7 +124,7 @@ pub record Laid (bytes : List ℕ) (k x y : ℕ) : Type 0 where
   pub onY : Whole yRule bytes (yField k x) y
 
 module _ (k x y : ℕ) where
-  broken-layout : (fault : Fault) → Unsound fault ≡ Sound k x y → ⊥
+  pub broken-layout : (fault : Break) → Unsound fault ≡ Sound k x y → ⊥
   broken-layout fault e = let z : _≡_ {A = ℕ} 0 1 = cc in omega arith
 
   -- a sound layout has taken the field that it begins with

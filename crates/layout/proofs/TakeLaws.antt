@@ -7,9 +7,8 @@ use lib.Dec.{eqb}
 use lib.ListN.{length, getD}
 use borrow.Author.Tests.{lt-ltb, le-ltb, le-leb, lt-leb, eq-eqb, ne-eqb}
 use Rattle.fields.specs.Places.{u16At}
-use Rattle.layout.specs.Judging.{lengthOk, fieldAt}
+use Rattle.layout.specs.Judging.{endedAt, tagAt, lengthAt, lengthOk, fieldAt}
 use Rattle.layout.specs.declared.Rule.{Rule}
-use Rattle.layout.specs.declared.Fault.the-variants.{Ended, Tag, Length}
 use Rattle.layout.specs.declared.Taken.the-variants.{Field, Broken}
 
 module _ (rule : Rule) (len : ℕ) where
@@ -30,27 +29,27 @@ module _ (rule : Rule) (len : ℕ) where
   length-entries h k e = rw (le-leb (rule .least) len h, le-leb len (rule .most) k, ne-eqb (rule .width) 0 e)
 
 module _ (rule : Rule) (bytes : List ℕ) (at : ℕ) where
-  pub field-none : length bytes ≤ at → fieldAt rule bytes at ≡ Broken (Ended (length bytes))
+  pub field-none : length bytes ≤ at → fieldAt rule bytes at ≡ Broken (endedAt (length bytes))
   unfolding fieldAt
   field-none h = rw (le-leb (length bytes) at h)
 
   module _ (more : at < length bytes) where
-    pub field-tag : (getD bytes at 0 ≡ rule .tag → ⊥) → fieldAt rule bytes at ≡ Broken (Tag at)
+    pub field-tag : (getD bytes at 0 ≡ rule .tag → ⊥) → fieldAt rule bytes at ≡ Broken (tagAt at)
     unfolding fieldAt
     field-tag h = rw (lt-leb (length bytes) at more, ne-eqb (getD bytes at 0) (rule .tag) h)
 
     module _ (tag : getD bytes at 0 ≡ rule .tag) where
-      pub field-headless : length bytes < at + 3 → fieldAt rule bytes at ≡ Broken (Ended (length bytes))
+      pub field-headless : length bytes < at + 3 → fieldAt rule bytes at ≡ Broken (endedAt (length bytes))
       unfolding fieldAt
       field-headless h = rw (lt-leb (length bytes) at more, eq-eqb (getD bytes at 0) (rule .tag) tag, lt-ltb (length bytes) (at + 3) h)
 
       module _ (head : at + 3 ≤ length bytes) where
-        pub field-length : lengthOk rule (u16At bytes (at + 1)) ≡ false → fieldAt rule bytes at ≡ Broken (Length (at + 1))
+        pub field-length : lengthOk rule (u16At bytes (at + 1)) ≡ false → fieldAt rule bytes at ≡ Broken (lengthAt (at + 1))
         unfolding fieldAt
         field-length h = rw (lt-leb (length bytes) at more, eq-eqb (getD bytes at 0) (rule .tag) tag, le-ltb (length bytes) (at + 3) head, h)
 
         module _ (right : lengthOk rule (u16At bytes (at + 1)) ≡ true) where
-          pub field-short : length bytes < at + 3 + u16At bytes (at + 1) → fieldAt rule bytes at ≡ Broken (Ended (length bytes))
+          pub field-short : length bytes < at + 3 + u16At bytes (at + 1) → fieldAt rule bytes at ≡ Broken (endedAt (length bytes))
           unfolding fieldAt
           field-short h =
               rw (lt-leb (length bytes) at more, eq-eqb (getD bytes at 0) (rule .tag) tag, le-ltb (length bytes) (at + 3) head, right, lt-ltb (length bytes) (at + 3 + u16At bytes (at + 1)) h)

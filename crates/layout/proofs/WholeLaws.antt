@@ -1,26 +1,23 @@
--- One record and nothing else: judged sound exactly where the bytes are some lists' bytes.
+-- One record and nothing else: bytes that are judged sound are the record of the lists that stand in them.
 use mathlib.Core.Bool.{Bool, true, false, cond}
-use mathlib.Core.Path.{_≡_, refl, sym, ap, _∙_}
-use mathlib.Core.List.{List, [], _++_, append-nil}
+use mathlib.Core.Path.{_≡_, refl, ap, _∙_}
+use mathlib.Core.List.{List, _++_, append-nil}
 use Prim.Native.Nat.{ℕ, _≤_}
 use native.Mathlib.Omega.{arith}
 use lib.Dec.{leb}
 use lib.ListN.{length, drop-of-length-le}
-use borrow.Author.Tests.{le-leb, leb-true}
-use Rattle.fields.specs.Bytes.{knotBytes, coordinateBytes, Octets}
-use Rattle.curve.specs.Lists.{Lists}
+use borrow.Author.Tests.{leb-true}
+use Rattle.fields.specs.Bytes.{Octets}
 use Rattle.format.specs.Format.{form1, recordBytes, Storable, IsRecord}
 use Rattle.format.specs.RecordPlaces.{recordEnd}
-use Rattle.format.proofs.SizeLaws.{length-record}
 use Rattle.layout.specs.StoredCurve.{degreeIn, curveIn}
-use Rattle.layout.specs.Judging.{recordLayout, alone, wholeRecord}
-use Rattle.layout.specs.declared.Fault.{Fault}
-use Rattle.layout.specs.declared.Fault.the-variants.{LeftOver}
+use Rattle.layout.specs.Judging.{leftOverAt, recordLayout, alone, wholeRecord}
+use Rattle.layout.specs.declared.Break.{Break}
 use Rattle.layout.specs.declared.Layout.{Layout}
 use Rattle.layout.specs.declared.Layout.the-variants.{Sound, Broken as Unsound}
-use Rattle.layout.proofs.RecordLaws.{layout-storable, layout-record, record-layout}
+use Rattle.layout.proofs.RecordLaws.{layout-storable, layout-record}
 
-unsound : (k x y : ℕ) (fault : Fault) → Unsound fault ≡ Sound k x y → ⊥
+unsound : (k x y : ℕ) (fault : Break) → Unsound fault ≡ Sound k x y → ⊥
 unsound k x y fault e = let z : _≡_ {A = ℕ} 0 1 = cc in omega arith
 
 -- what a sound layout of a lone record says
@@ -32,8 +29,8 @@ lone-by : (bytes : List ℕ) (k x y : ℕ) (l : Layout) → recordLayout bytes �
 lone-by bytes k x y (Unsound fault) e a = absurd (unsound k x y fault a)
 lone-by bytes k x y (Sound p q r) e a = ends (leb (length bytes) (recordEnd p q r)) refl a
   where
-    ends : (b : Bool) → leb (length bytes) (recordEnd p q r) ≡ b → cond b (Sound p q r) (Unsound (LeftOver (recordEnd p q r))) ≡ Sound k x y → Lone bytes k x y
-    ends false t a = absurd (unsound k x y (LeftOver (recordEnd p q r)) a)
+    ends : (b : Bool) → leb (length bytes) (recordEnd p q r) ≡ b → cond b (Sound p q r) (Unsound (leftOverAt (recordEnd p q r))) ≡ Sound k x y → Lone bytes k x y
+    ends false t a = absurd (unsound k x y (leftOverAt (recordEnd p q r)) a)
     ends true t a =
         let inside : length bytes ≤ recordEnd p q r = leb-true (length bytes) (recordEnd p q r) t in
         let isK : p ≡ k = (cc) in
@@ -59,19 +56,7 @@ pub whole-storable : (bytes : List ℕ) → Octets bytes → (k x y : ℕ) → w
     → Storable form1 (degreeIn bytes) (curveIn bytes k x y)
 whole-storable bytes octets k x y e = layout-storable bytes octets k x y (whole-lone bytes k x y e .layout)
 
--- some lists' bytes are judged sound
-pub record-whole : (m : ℕ) (c : Lists) (bytes : List ℕ) → Storable form1 m c → bytes ≡ recordBytes form1 m c
-    → wholeRecord bytes ≡ Sound (length (knotBytes (c .knots))) (length (coordinateBytes (c .xs))) (length (coordinateBytes (c .ys)))
-unfolding wholeRecord
-record-whole m c bytes s e =
-    let k : ℕ = length (knotBytes (c .knots)) in
-    let x : ℕ = length (coordinateBytes (c .xs)) in
-    let y : ℕ = length (coordinateBytes (c .ys)) in
-    let size : length bytes ≡ recordEnd k x y = ap length e ∙ length-record form1 m c in
-    let inside : length bytes ≤ recordEnd k x y = omega arith in
-    rw (record-layout m c [] bytes s (e ∙ sym (append-nil (recordBytes form1 m c))), le-leb (length bytes) (recordEnd k x y) inside)
-
--- the two together: sound exactly where the bytes are a record
+-- so they are a record
 abbrev pub record-of-sound : (bytes : List ℕ) → Octets bytes → (k x y : ℕ) → wholeRecord bytes ≡ Sound k x y → IsRecord form1 bytes
 record-of-sound bytes octets k x y e =
     record {
@@ -80,7 +65,3 @@ record-of-sound bytes octets k x y e =
       storable = whole-storable bytes octets k x y e;
       same = whole-record bytes octets k x y e;
     }
-
-pub unsound-no-record : (bytes : List ℕ) (fault : Fault) → wholeRecord bytes ≡ Unsound fault → IsRecord form1 bytes → ⊥
-unsound-no-record bytes fault e r =
-    unsound _ _ _ fault (sym e ∙ record-whole (r .m) (r .c) bytes (r .storable) (r .same))

@@ -6,11 +6,12 @@ use Prim.Native.Nat.{ℕ, _+_, _%_}
 use lib.Dec.{leb, ltb, eqb}
 use lib.ListN.{length, getD}
 use Rattle.fields.specs.Places.{u16At}
+use Rattle.refusal.specs.Numbers.{endedRefused, tagRefused, lengthRefused, leftOverRefused}
 use Rattle.grid.specs.Limits.{headBytes, knotBytesMost, coordinateBytesMost}
 use Rattle.format.specs.Format.{degreeTag, knotsTag, xTag, yTag}
 use Rattle.format.specs.RecordPlaces.{knotsField, xField, yField, recordEnd}
 use Rattle.layout.specs.declared.Rule.{Rule}
-use Rattle.layout.specs.declared.Fault.the-variants.{Ended, Tag, Length, LeftOver}
+use Rattle.layout.specs.declared.Break.{Break}
 use Rattle.layout.specs.declared.Taken.{Taken}
 use Rattle.layout.specs.declared.Taken.the-variants.{Field, Broken}
 use Rattle.layout.specs.declared.Layout.{Layout}
@@ -39,14 +40,27 @@ wholeEntries width len = not (eqb width 0) && eqb (len % width) 0
 unfoldable pub lengthOk : Rule → ℕ → Bool
 lengthOk rule len = leb (rule .least) len && leb len (rule .most) && wholeEntries (rule .width) len
 
+-- where bytes break: at their end, at a tag, at a length's first byte, at a byte left over
+abbrev pub endedAt : ℕ → Break
+endedAt place = record { number = endedRefused; place = place }
+
+abbrev pub tagAt : ℕ → Break
+tagAt place = record { number = tagRefused; place = place }
+
+abbrev pub lengthAt : ℕ → Break
+lengthAt place = record { number = lengthRefused; place = place }
+
+abbrev pub leftOverAt : ℕ → Break
+leftOverAt place = record { number = leftOverRefused; place = place }
+
 -- the field that begins at a place, as far as the input goes
 unfoldable pub fieldAt : Rule → List ℕ → ℕ → Taken
 fieldAt rule bytes at =
-    cond (leb (length bytes) at) (Broken (Ended (length bytes)))
-    (cond (not (eqb (getD bytes at 0) (rule .tag))) (Broken (Tag at))
-    (cond (ltb (length bytes) (at + headBytes)) (Broken (Ended (length bytes)))
-    (cond (not (lengthOk rule (u16At bytes (at + 1)))) (Broken (Length (at + 1)))
-    (cond (ltb (length bytes) (at + headBytes + u16At bytes (at + 1))) (Broken (Ended (length bytes)))
+    cond (leb (length bytes) at) (Broken (endedAt (length bytes)))
+    (cond (not (eqb (getD bytes at 0) (rule .tag))) (Broken (tagAt at))
+    (cond (ltb (length bytes) (at + headBytes)) (Broken (endedAt (length bytes)))
+    (cond (not (lengthOk rule (u16At bytes (at + 1)))) (Broken (lengthAt (at + 1)))
+    (cond (ltb (length bytes) (at + headBytes + u16At bytes (at + 1))) (Broken (endedAt (length bytes)))
     (Field (u16At bytes (at + 1)))))))
 
 -- what follows a field that was taken; a fault stops the reading
@@ -72,7 +86,7 @@ recordLayout bytes = thenField (fieldAt degreeRule bytes 0) (λ d. fromKnots byt
 
 -- nothing may follow a lone record
 abbrev pub alone : List ℕ → Layout → Layout
-alone bytes (Sound k x y) = cond (leb (length bytes) (recordEnd k x y)) (Sound k x y) (Unsound (LeftOver (recordEnd k x y)))
+alone bytes (Sound k x y) = cond (leb (length bytes) (recordEnd k x y)) (Sound k x y) (Unsound (leftOverAt (recordEnd k x y)))
 alone bytes (Unsound fault) = Unsound fault
 
 -- bytes that are to be one record and nothing else

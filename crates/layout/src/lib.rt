@@ -12,24 +12,22 @@ pub struct Rule {
     pub width: usize,
 }
 
-// A fault, with its place: the input's length, the tag's place, that of a length's first byte, or of a byte left over.
-pub enum Fault {
-    Ended(usize),
-    Tag(usize),
-    Length(usize),
-    LeftOver(usize),
+// Where bytes break: the number of refusal and the place. The place is the input's length, a tag's, that of a length's first byte, or of a byte left over.
+pub struct Break {
+    pub number: u32,
+    pub place: usize,
 }
 
 // A field that was taken: the length of its contents. Or why there is none.
 pub enum Taken {
     Field(usize),
-    Broken(Fault),
+    Broken(Break),
 }
 
 // The lengths of a record's fields of knots, x and y. Or why there is no record.
 pub enum Layout {
     Sound { knots: usize, xs: usize, ys: usize },
-    Broken(Fault),
+    Broken(Break),
 }
 
 // A length within the rule, of whole entries.
@@ -55,21 +53,36 @@ pub fn take_field(bytes: &[u8], at: usize, rule: Rule) -> Taken
 {
     let len = bytes.len();
     if len <= at {
-        return Taken::Broken(Fault::Ended(len));
+        return Taken::Broken(Break {
+            number: refusal::ENDED,
+            place: len,
+        });
     }
     let tag = bytes[at];
     if tag != rule.tag {
-        return Taken::Broken(Fault::Tag(at));
+        return Taken::Broken(Break {
+            number: refusal::TAG,
+            place: at,
+        });
     }
     if len < at + grid::HEAD_BYTES {
-        return Taken::Broken(Fault::Ended(len));
+        return Taken::Broken(Break {
+            number: refusal::ENDED,
+            place: len,
+        });
     }
     let size = fields::get_u16(bytes, at + 1) as usize;
     if !length_ok(rule, size) {
-        return Taken::Broken(Fault::Length(at + 1));
+        return Taken::Broken(Break {
+            number: refusal::LENGTH,
+            place: at + 1,
+        });
     }
     if len < at + grid::HEAD_BYTES + size {
-        return Taken::Broken(Fault::Ended(len));
+        return Taken::Broken(Break {
+            number: refusal::ENDED,
+            place: len,
+        });
     }
     Taken::Field(size)
 }
@@ -135,7 +148,10 @@ pub fn whole_record(bytes: &[u8]) -> Layout
             if bytes.len() <= end {
                 return Layout::Sound { knots, xs, ys };
             }
-            Layout::Broken(Fault::LeftOver(end))
+            Layout::Broken(Break {
+                number: refusal::LEFT_OVER,
+                place: end,
+            })
         }
         Layout::Broken(fault) => Layout::Broken(fault),
     }

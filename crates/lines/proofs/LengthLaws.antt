@@ -5,7 +5,7 @@ use Prim.Native.Nat.{ℕ, suc, _+_, _*_, _^_, _≤_, _<_}
 use native.Mathlib.Omega.{arith}
 use lib.ListN.{length, getD, length-append}
 use Rattle.digits.specs.Decimal.{decimal}
-use Rattle.lines.specs.Lines.{labelled, oneNumber, threeNumbers, curveWord, pointsWord, spansWord, clampWord, meetWord, toWord, clearWord, refusedWord, lineEnd, curveLine, meetLine, clearLine, refusedLine, meetLines}
+use Rattle.lines.specs.Lines.{labelled, oneNumber, twoNumbers, threeNumbers, curveWord, pointsWord, spansWord, clampWord, meetWord, toWord, clearWord, refusedWord, atWord, lineEnd, curveLine, meetLine, clearLine, refusedLine, brokenLine, meetLines}
 use Rattle.digits.proofs.DecimalLaws.{decimal-short}
 
 -- a word and its number
@@ -44,6 +44,19 @@ clearLine-most k h = omega (arith, oneNumber-length clampWord k clearWord, decim
 -- "refused 4294967295"
 pub refusedLine-most : (number : ℕ) → number < 10 ^ 10 → length (refusedLine number) ≤ 19
 refusedLine-most number h = omega (arith, oneNumber-length refusedWord number lineEnd, decimal-short 9 number h)
+
+-- "refused 4294967295 at 4294967295"
+pub brokenLine-most : (number place : ℕ) → number < 10 ^ 10 → place < 10 ^ 10 → length (brokenLine number place) ≤ 33
+unfolding twoNumbers
+brokenLine-most number place h k =
+    omega (
+      arith,
+      length-append (labelled refusedWord number) (oneNumber atWord place lineEnd),
+      labelled-length refusedWord number,
+      oneNumber-length atWord place lineEnd,
+      decimal-short 9 number h,
+      decimal-short 9 place k,
+    )
 
 -- all lines on a clamp, 31 bytes each
 pub meetLines-most : (k : ℕ) (lows highs : List ℕ) → k < 10 ^ 2 → ((i : ℕ) → getD lows i 0 < 10 ^ 5) → ((i : ℕ) → getD highs i 0 < 10 ^ 5) → length (meetLines k lows highs) ≤ 31 * length lows

@@ -36,6 +36,10 @@ clearWord = space ∷ c ∷ l ∷ e ∷ a ∷ r ∷ newline ∷ []
 abbrev pub refusedWord : List ℕ
 refusedWord = r ∷ e ∷ f ∷ u ∷ s ∷ e ∷ d ∷ space ∷ []
 
+-- " at "
+abbrev pub atWord : List ℕ
+atWord = space ∷ a ∷ t ∷ space ∷ []
+
 -- the end of a line
 abbrev pub lineEnd : List ℕ
 lineEnd = newline ∷ []
@@ -47,6 +51,10 @@ labelled word number = word ++ decimal number
 -- a line of one number, and what stands behind it
 unfoldable pub oneNumber : List ℕ → ℕ → List ℕ → List ℕ
 oneNumber word number end = labelled word number ++ end
+
+-- a line of two numbers, each behind its word, and what stands behind them
+unfoldable pub twoNumbers : List ℕ → ℕ → List ℕ → ℕ → List ℕ → List ℕ
+twoNumbers first x second y end = labelled first x ++ oneNumber second y end
 
 -- a line of three numbers, each behind its word
 unfoldable pub threeNumbers : List ℕ → ℕ → List ℕ → ℕ → List ℕ → ℕ → List ℕ
@@ -67,6 +75,10 @@ clearLine k = oneNumber clampWord k clearWord
 -- "refused N"
 abbrev pub refusedLine : ℕ → List ℕ
 refusedLine number = oneNumber refusedWord number lineEnd
+
+-- "refused N at P"
+abbrev pub brokenLine : ℕ → ℕ → List ℕ
+brokenLine number place = twoNumbers refusedWord number atWord place lineEnd
 
 -- one line for each listed span, whose two knots stand at the same place of the two lists
 unfoldable pub meetLines : ℕ → List ℕ → List ℕ → List ℕ

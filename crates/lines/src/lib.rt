@@ -3,7 +3,7 @@ ghost use mathlib.Core.Path.{_≡_};
 ghost use Prim.Native.Nat.{_+_, _≤_};
 ghost use lib.ListN.{length};
 ghost use Rattle.digits.specs.Put.{Put};
-ghost use Rattle.lines.specs.Lines.{labelled, oneNumber, threeNumbers, curveLine, meetLine, clearLine, refusedLine, meetLines};
+ghost use Rattle.lines.specs.Lines.{labelled, oneNumber, twoNumbers, threeNumbers, curveLine, meetLine, clearLine, refusedLine, brokenLine, meetLines};
 
 // Puts a word and the number behind it.
 fn put_labelled(out: &mut [u8], at: usize, word: &[u8], number: u32) -> usize
@@ -21,6 +21,24 @@ fn put_one_number(out: &mut [u8], at: usize, word: &[u8], number: u32, end: &[u8
 {
     let behind = put_labelled(out, at, word, number);
     digits::put_bytes(out, behind, end)
+}
+
+// Puts a line of two numbers, each behind its word, and what stands behind them.
+fn put_two_numbers(
+    out: &mut [u8],
+    at: usize,
+    first: &[u8],
+    a: u32,
+    second: &[u8],
+    b: u32,
+    end: &[u8],
+) -> usize
+    requires { ⌜ at + length (twoNumbers (now first) a (now second) b (now end)) ≤ length (now out) ⌝ }
+    ensures result { λ r. ⌜ Put (now (out .entry)) at (twoNumbers (now (first .entry)) a (now (second .entry)) b (now (end .entry)))
+        (now (out .exit)) r ⌝ }
+{
+    let behind = put_labelled(out, at, first, a);
+    put_one_number(out, behind, second, b, end)
 }
 
 // Puts a line of three numbers, each behind its word.
@@ -83,6 +101,14 @@ pub fn put_refused_line(out: &mut [u8], at: usize, number: u32) -> usize
     ensures result { λ r. ⌜ Put (now (out .entry)) at (refusedLine number) (now (out .exit)) r ⌝ }
 {
     put_one_number(out, at, b"refused ", number, b"\n")
+}
+
+// Puts the line on bytes that are no job.
+pub fn put_broken_line(out: &mut [u8], at: usize, number: u32, place: u32) -> usize
+    requires { ⌜ at + length (brokenLine number place) ≤ length (now out) ⌝ }
+    ensures result { λ r. ⌜ Put (now (out .entry)) at (brokenLine number place) (now (out .exit)) r ⌝ }
+{
+    put_two_numbers(out, at, b"refused ", number, b" at ", place, b"\n")
 }
 
 // Puts a line for each listed span: its knots stand at one place of the two lists.

@@ -1,8 +1,6 @@
 -- Every promise of specs/Promises.antt, proved under its own name.
-use mathlib.Core.Path.{_≡_, sym}
-use Prim.Native.Nat.{suc, _+_}
 use native.Mathlib.Numerals.{add-one}
-use lib.ListN.{length, getD}
+use lib.ListN.{length}
 use Rattle.checked.proofs.CheckedLaws.{checked-of-passes}
 use Rattle.checked.proofs.SentenceLaws.{check-answers}
 use Rattle.curve.proofs.SentenceLaws.{room-exactly, success-hands-over, refusal-hands-nothing}
@@ -25,6 +23,9 @@ use Rattle.spans_met.proofs.OutcomeLaws.{success-lists-spans, accepted-list-is-
 use Rattle.record.proofs.SentenceLaws.{write-answers, read-answers}
 use Rattle.job.proofs.SentenceLaws.{job-answers}
 use Rattle.door_outcomes.proofs.OutcomeLaws as Door
+use Rattle.door_outcomes.proofs.PlaceLaws.{record-place-told, job-place-told}
+use Rattle.breaks.proofs.LoneLaws.{records-told}
+use Rattle.job.proofs.JobFaultLaws.{jobs-told, job-fault-kept}
 use Rattle.door_outcomes.proofs.CarryingLaws.{first-finds-carrying}
 use Rattle.span.specs.Span.{spanOf}
 use Rattle.span.proofs.SpanLaws.{span-unique, span-holds, inDomain-says}
@@ -35,15 +36,15 @@ use Rattle.knots_exact.proofs.InsertionLaws.{insert-keeps-curve}
 use Rattle.knots_exact.proofs.RemovalLaws.{remove-keeps-curve}
 use Rattle.joining_exact.proofs.JoinedLaws.{join-passes, join-is-hermite, join-meets-points, join-has-entries}
 use Rattle.remove_knot.proofs.OutcomeLaws as Removal
-use Rattle.round_trip.proofs.RecordTrip.{written-reads-back, read-writes-back, one-record-for-each-curve, records-short, sixteen-exactly, reading-determined}
-use Rattle.round_trip.proofs.JobTrip.{job-reads-back, jobs-short, job-sixteen-exactly, job-reading-determined}
+use Rattle.round_trip.proofs.RecordTrip.{written-reads-back, read-writes-back, one-record-for-each-curve, records-short, faults-exactly, reading-determined}
+use Rattle.round_trip.proofs.JobTrip.{job-reads-back, jobs-short, job-faults-exactly, job-reading-determined}
 use Rattle.worked.proofs.WorkedLaws.{worked-hold}
 use Rattle.job_text.proofs.TextLaws.{parts-are-the-text, written-is-text}
-use Rattle.job_text.proofs.UniqueLaws.{one-text}
+use Rattle.job_text.proofs.UniqueLaws.{one-text, broken-is-one-line}
 use Rattle.clear_is_clear.proofs.ClearLaws.{clear-is-clear, every-clamp-told, else-listed}
 use Rattle.knots_exact.proofs.CompactionLaws.{compact-keeps-curve, editing-passes}
 use Rattle.compact.proofs.OutcomeLaws as Compaction
-use Rattle.promises.specs.Promises.{CheckGivesLowestRow, RefusalsAnswerFirst, ResultsHandedOver, CarryingPointsCarry, SpansListedExactly, InsertedEntryByEntry, InsertedThenRemoved, CompactionTakesWhatItCounts, JoinedCurveMeetsPoints, ExportsDetermined, EveryParameterHasItsSpan, ComputedPointNearExact, CrossingsReported, InsertionKeepsCurve, RemovalKeepsCurve, RemovalDetermined, CompactionKeepsCurve, CompactionDetermined, EditedCurvePasses, JoinedCurvePasses, JoinedCurveIsHermite, RecordsGoRound, ReadingIsExact, JobsReadBack, ProgramWritesItsText, ClearMeansClear, WorkedCasesHold}
+use Rattle.promises.specs.Promises.{CheckGivesLowestRow, RefusalsAnswerFirst, ResultsHandedOver, CarryingPointsCarry, SpansListedExactly, InsertedEntryByEntry, InsertedThenRemoved, CompactionTakesWhatItCounts, JoinedCurveMeetsPoints, ExportsDetermined, EveryParameterHasItsSpan, ComputedPointNearExact, CrossingsReported, InsertionKeepsCurve, RemovalKeepsCurve, RemovalDetermined, CompactionKeepsCurve, CompactionDetermined, EditedCurvePasses, JoinedCurvePasses, JoinedCurveIsHermite, RecordsGoRound, FaultIsLeftmost, PlacesToldWithFaults, ReadingIsExact, JobsReadBack, ProgramWritesItsText, ClearMeansClear, WorkedCasesHold}
 
 pub check-gives-lowest-row : CheckGivesLowestRow
 check-gives-lowest-row = check-answers
@@ -83,7 +84,7 @@ pub records-go-round : RecordsGoRound
 records-go-round = (written-reads-back, read-writes-back, one-record-for-each-curve, records-short)
 
 pub reading-is-exact : ReadingIsExact
-reading-is-exact = (sixteen-exactly, reading-determined, job-sixteen-exactly, job-reading-determined)
+reading-is-exact = (faults-exactly, reading-determined, job-faults-exactly, job-reading-determined)
 
 pub jobs-read-back : JobsReadBack
 jobs-read-back = (job-reads-back, jobs-short)
@@ -92,7 +93,7 @@ pub worked-cases-hold : WorkedCasesHold
 worked-cases-hold = worked-hold
 
 pub program-writes-its-text : ProgramWritesItsText
-program-writes-its-text = (parts-are-the-text, written-is-text, one-text)
+program-writes-its-text = (parts-are-the-text, written-is-text, one-text, broken-is-one-line)
 
 pub clear-means-clear : ClearMeansClear
 clear-means-clear = (clear-is-clear, every-clamp-told, else-listed)
@@ -150,6 +151,12 @@ compaction-takes-what-it-counts = (turn-ends, pass-leaves, compaction-counts)
 
 pub joined-curve-meets-points : JoinedCurveMeetsPoints
 joined-curve-meets-points = (join-meets-points, join-has-entries)
+
+pub fault-is-leftmost : FaultIsLeftmost
+fault-is-leftmost = (records-told, jobs-told, job-fault-kept)
+
+pub places-told-with-faults : PlacesToldWithFaults
+places-told-with-faults = (record-place-told, job-place-told)
 
 pub exports-determined : ExportsDetermined
 exports-determined = (Door.removal-determined, Door.compaction-determined, Door.record-determined, Door.job-determined)

@@ -28,7 +28,10 @@ use Rattle.span_walk.specs.Sentences.{ListedExactly, ListRises, KnotsOfEachSpan
 use Rattle.spans_met.specs.Sentences.{ListAnswersFirst}
 use Rattle.spans_met.specs.Outcome.{SuccessListsSpans, AcceptedListIsExact, RefusalListsNothing}
 use Rattle.record.specs.Sentences.{WriteAnswersFirst, ReadAnswersFirst}
-use Rattle.job.specs.Sentences.{JobAnswersFirst}
+use Rattle.job.specs.Sentences.{JobFaultKept, JobAnswersFirst}
+use Rattle.fault.specs.Told.{FaultsTold}
+use Rattle.fault.specs.Kinds.{loneRecords}
+use Rattle.job.specs.JobFormat.{jobs}
 use Rattle.door_outcomes.specs.Exports as Door
 use Rattle.point_at_exact.specs.PointNear.{PointNearExact}
 use Rattle.spans_met_exact.specs.Crossing.{EveryCrossingReported}
@@ -37,7 +40,7 @@ use Rattle.remove_knot.specs.Outcome.{RemovalOutcome}
 use Rattle.compact.specs.declared.CompactAnswer.{CompactAnswer}
 use Rattle.compact.specs.Outcome.{CompactOutcome}
 use Rattle.round_trip.specs.RoundTrip as Trip
-use Rattle.job_text.specs.Program.{PartsAreTheText, WrittenIsText, OneText}
+use Rattle.job_text.specs.Program.{PartsAreTheText, WrittenIsText, BrokenIsOneLine, OneText}
 use Rattle.clear_is_clear.specs.Clear.{ClearIsClear, EveryClampTold, ElseListed}
 use Rattle.worked.specs.Case.{AllHold}
 use Rattle.worked.specs.Worked.{cases}
@@ -145,18 +148,23 @@ JoinedCurveMeetsPoints = JoinMeetsPoints × JoinHasEntries
 abbrev pub RecordsGoRound : Type 0
 RecordsGoRound = Trip.WrittenReadsBack × Trip.ReadWritesBack × Trip.OneRecordForEachCurve × Trip.RecordsShort
 
--- "The record on disk": a record, or a job, is refused 16 exactly where the bytes are no lists' record, or job; reading has one outcome
+-- "Where bytes break": bytes are a lone record, or a job, or have a leftmost fault, never both and never two; 21 stands behind every whole record and
+-- every job with 64 clamps; and of bytes longer than the longest job the first 11,478 tell the fault
+abbrev pub FaultIsLeftmost : Type 0
+FaultIsLeftmost = FaultsTold loneRecords × FaultsTold jobs × JobFaultKept
+
+-- "Where bytes break": reading a record, or a job, tells exactly the leftmost fault of its bytes, and has one outcome
 abbrev pub ReadingIsExact : Type 0
-ReadingIsExact = Trip.SixteenExactly × Trip.ReadingDetermined × Trip.JobSixteenExactly × Trip.JobReadingDetermined
+ReadingIsExact = Trip.FaultsExactly × Trip.ReadingDetermined × Trip.JobFaultsExactly × Trip.JobReadingDetermined
 
 -- "The record on disk": reading the job of some lists reads these lists, and a job has at most 11,477 bytes
 abbrev pub JobsReadBack : Type 0
 JobsReadBack = Trip.JobReadsBack × Trip.JobsShort
 
--- "`clampcheck`": for any bytes, each part that `clampcheck` writes is that part of their text, the parts in a row are the whole text, and bytes
--- have one text
+-- "`clampcheck`": for any bytes, each part that `clampcheck` writes is that part of their text, the parts in a row are the whole text, bytes have
+-- one text, and that of bytes which are no job is one line with the number and the place of their leftmost fault
 abbrev pub ProgramWritesItsText : Type 0
-ProgramWritesItsText = PartsAreTheText × WrittenIsText × OneText
+ProgramWritesItsText = PartsAreTheText × WrittenIsText × OneText × BrokenIsOneLine
 
 -- "`clampcheck`": where the text says that a clamp is clear, the exact curve avoids it at every fraction of the domain; every clamp of a job that
 -- is not refused is told of, and where no line says that it is clear the spans that may meet it are listed
@@ -166,6 +174,11 @@ ClearMeansClear = ClearIsClear × EveryClampTold × ElseListed
 -- "How much each contract says": where an export speaks of some answer of the call that it wraps, what it answers is determined
 abbrev pub ExportsDetermined : Type 0
 ExportsDetermined = Door.RemovalDetermined × Door.CompactionDetermined × Door.RecordDetermined × Door.JobDetermined
+
+-- "How much each contract says": of the exports that read, the number lent for the place is written with 16 and 19 to 21, with the place of the leftmost
+-- fault, and with no other answer
+abbrev pub PlacesToldWithFaults : Type 0
+PlacesToldWithFaults = Door.RecordPlaceTold × Door.JobPlaceTold
 
 -- "Worked by hand": every worked case holds of the calls' own answers
 abbrev pub WorkedCasesHold : Type 0

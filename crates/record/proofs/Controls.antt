@@ -9,10 +9,11 @@ use Rattle.grid.specs.Rows.{degreeOk, pointCountOk, knotCountOk, risesFrom, kno
 use Rattle.grid.specs.Check.{checkedThen}
 use Rattle.format.specs.Format.{recordBytes}
 use Rattle.format.proofs.Controls.{curveA}
+use Rattle.fault.specs.Verdict.{judged, broken}
 use Rattle.record.specs.Writing.{writeNumber, writeAnswer}
 use Rattle.record.specs.Reading.{recordNumber, readAnswer}
 use Rattle.record.specs.declared.WriteAnswer.the-variants.{Written, Refused as NotWritten}
-use Rattle.record.specs.declared.ReadAnswer.the-variants.{Curve, Refused}
+use Rattle.record.specs.declared.ReadAnswer.the-variants.{Curve, Broken, Refused}
 
 -- curve A has a record of 61 bytes; with the degree 4 it is no curve
 written-A : writeAnswer 3 curveA (replicate 61 0) ∷ writeAnswer 3 curveA (replicate 60 0) ∷ writeAnswer 4 curveA (replicate 60 0) ∷ []
@@ -29,5 +30,5 @@ read-A : recordNumber 3 curveA (lists (replicate 8 0) (replicate 4 (pos 0)) (rep
 unfolding recordNumber enough checkedThen degreeOk pointCountOk knotCountOk risesFrom knotOrderOk allAre endsOk occurrences repeatsMost repeatsWithin repeatsOk onGrid allOnGrid rangeOk curveA
 read-A = refl
 
-read-or-refused : readAnswer 0 3 4 ∷ readAnswer 16 3 4 ∷ [] ≡ Curve 3 4 ∷ Refused 16 ∷ []
+read-or-refused : readAnswer (judged 0) 3 4 ∷ readAnswer (judged 15) 3 4 ∷ readAnswer (broken 16 0) 3 4 ∷ [] ≡ Curve 3 4 ∷ Refused 15 ∷ Broken 16 0 ∷ []
 read-or-refused = refl

@@ -7,6 +7,7 @@ use Rattle.curve.specs.Lists.{Lists}
 use Rattle.curve.proofs.HandingLaws.{handedOver-refused}
 use Rattle.grid.specs.Check.{checkNumber}
 use Rattle.grid.proofs.ThenLaws.{checkedThen-refused, checkedThen-passed}
+use Rattle.fault.specs.Verdict.{Verdict, judged}
 use Rattle.record.specs.Reading.{recordNumber, readAnswer}
 use Rattle.record.specs.declared.ReadAnswer.{ReadAnswer}
 use Rattle.record.specs.declared.ReadAnswer.the-variants.{Curve, Refused}
@@ -23,15 +24,15 @@ module _ (m : ℕ) (c lent : Lists) where
   number-room checked room e passes r = checkedThen-passed m (c .knots) (c .xs) (c .ys) _ (sym e ∙ passes) ∙ sym r
 
 -- a refusal answers its number and leaves the lists
-pub read-refused : (number judged m points : ℕ) (c before : Lists) → judged ≡ number → (number ≡ 0 → ⊥)
-    → (Refused number ≡ readAnswer judged m points) × (before ≡ handedOver judged c before)
-read-refused number judged m points c before e n =
+pub read-refused : (number told m points : ℕ) (c before : Lists) → told ≡ number → (number ≡ 0 → ⊥)
+    → (Refused number ≡ readAnswer (judged told) m points) × (before ≡ handedOver told c before)
+read-refused number told m points c before e n =
     (sym (answered-refused (Curve m) Refused number points n) ∙ rw e, sym (handedOver-refused number c before n) ∙ rw e)
 
 -- the number of points, counted another way
-pub read-counted : (a : ReadAnswer) (number m points counted : ℕ) → a ≡ readAnswer number m points → counted ≡ points → a ≡ readAnswer number m counted
-read-counted a number m points counted e n = e ∙ ap (readAnswer number m) (sym n)
+pub read-counted : (a : ReadAnswer) (verdict : Verdict) (m points counted : ℕ) → a ≡ readAnswer verdict m points → counted ≡ points → a ≡ readAnswer verdict m counted
+read-counted a verdict m points counted e n = e ∙ ap (readAnswer verdict m) (sym n)
 
 -- nothing refused: the degree and the number of points
-pub read-accepted : (judged d m points : ℕ) → judged ≡ 0 → d ≡ m → Curve d points ≡ readAnswer judged m points
-read-accepted judged d m points e isM = rw (e, isM)
+pub read-accepted : (told d m points : ℕ) → told ≡ 0 → d ≡ m → Curve d points ≡ readAnswer (judged told) m points
+read-accepted told d m points e isM = rw (e, isM)

@@ -6,7 +6,10 @@ use Rattle.refusal.specs.Chain.{Row, row, AnswersFirst}
 use Rattle.curve.specs.Lists.{Lists}
 use Rattle.curve.specs.Sentences.{RoomWrong}
 use Rattle.checked.specs.Sentences.{curveRows}
-use Rattle.format.specs.Format.{form1, recordBytes, IsRecord}
+use Rattle.format.specs.Format.{form1, recordBytes}
+use Rattle.fault.specs.Kinds.{loneRecords}
+use Rattle.fault.specs.Sentences.{faultRows}
+use Rattle.fault.specs.Verdict.{Verdict, numberOf}
 use Rattle.record.specs.Writing.{writeNumber}
 use Rattle.record.specs.Reading.{RecordComesTo}
 
@@ -14,9 +17,9 @@ use Rattle.record.specs.Reading.{RecordComesTo}
 abbrev pub writeRows : ℕ → Lists → List ℕ → List Row
 writeRows m c out = curveRows m (c .knots) (c .xs) (c .ys) (row 15 (length out < length (recordBytes form1 m c)) ∷ [])
 
--- reading: 16, the bytes are nobody's record; then 1 to 7 for the curve that they are the record of, then 15 for the three lent lists
+-- reading: 16 and 19 to 21 for the leftmost fault; then 1 to 7 for the curve that the bytes are the record of, then 15 for the three lent lists
 abbrev pub readRows : List ℕ → ℕ → Lists → Lists → List Row
-readRows bytes m c lent = row 16 (IsRecord form1 bytes → ⊥) ∷ curveRows m (c .knots) (c .xs) (c .ys) (row 15 (RoomWrong c lent) ∷ [])
+readRows bytes m c lent = faultRows loneRecords bytes (curveRows m (c .knots) (c .xs) (c .ys) (row 15 (RoomWrong c lent) ∷ []))
 
 -- each call answers n exactly when row n applies and none before it does, and 0 exactly when none applies
 abbrev pub WriteAnswersFirst : Type 0
@@ -24,4 +27,5 @@ WriteAnswersFirst = (m : ℕ) (c : Lists) (out : List ℕ) → AnswersFirst (wri
 
 abbrev pub ReadAnswersFirst : Type 0
 ReadAnswersFirst =
-    (bytes : List ℕ) (lent : Lists) (number m : ℕ) (c : Lists) → RecordComesTo bytes lent number m c → AnswersFirst number (readRows bytes m c lent)
+    (bytes : List ℕ) (lent : Lists) (verdict : Verdict) (m : ℕ) (c : Lists)
+    → RecordComesTo bytes lent verdict m c → AnswersFirst (numberOf verdict) (readRows bytes m c lent)

@@ -15,9 +15,10 @@ pub enum WriteAnswer {
     Refused(u32),
 }
 
-// Degree and number of points of a curve that was read, or why there is none.
+// Degree and number of points of a curve that was read. Or where the bytes break, with the number of refusal and the place; or the number alone.
 pub enum ReadAnswer {
     Curve { degree: u32, points: usize },
+    Broken { number: u32, place: usize },
     Refused(u32),
 }
 
@@ -66,6 +67,9 @@ pub fn read_record(
             out_xs,
             out_ys,
         ),
-        Layout::Broken(_) => ReadAnswer::Refused(refusal::BYTES),
+        Layout::Broken(found) => ReadAnswer::Broken {
+            number: found.number,
+            place: found.place,
+        },
     }
 }

@@ -49,11 +49,20 @@ rectangleRefused = 14
 abbrev pub roomRefused : ℕ  -- a lent result list that is too short
 roomRefused = 15
 
-abbrev pub bytesRefused : ℕ  -- bytes that are no record, or no job
-bytesRefused = 16
+abbrev pub endedRefused : ℕ  -- bytes that end before a record, or a job, is whole
+endedRefused = 16
 
 abbrev pub splinePointsRefused : ℕ  -- spline points that cannot be joined
 splinePointsRefused = 17
 
 abbrev pub joinedRangeRefused : ℕ  -- a joined control point off the grid
 joinedRangeRefused = 18
+
+abbrev pub tagRefused : ℕ  -- a byte that is no tag which may stand there
+tagRefused = 19
+
+abbrev pub lengthRefused : ℕ  -- a length that the field cannot have
+lengthRefused = 20
+
+abbrev pub leftOverRefused : ℕ  -- a byte behind a lone record, or behind a job's 64th clamp
+leftOverRefused = 21

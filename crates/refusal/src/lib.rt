@@ -31,8 +31,14 @@ pub const RECTANGLE: u32 = 14;
 
 pub const ROOM: u32 = 15;
 
-pub const BYTES: u32 = 16;
+pub const ENDED: u32 = 16;
 
 pub const SPLINE_POINTS: u32 = 17;
 
 pub const JOINED_RANGE: u32 = 18;
+
+pub const TAG: u32 = 19;
+
+pub const LENGTH: u32 = 20;
+
+pub const LEFT_OVER: u32 = 21;

@@ -8,12 +8,13 @@ use lib.IntN.{ℤ}
 use lib.ListN.{length, take}
 use Rattle.curve.specs.Lists.{Lists, lists}
 use Rattle.curve.specs.HandingOver.{enough}
+use Rattle.grid.specs.Limits.{jobMost}
 use Rattle.span_walk.specs.SpansMet.{spanCount}
-use Rattle.lines.specs.Lines.{curveLine, refusedLine}
+use Rattle.lines.specs.Lines.{curveLine, refusedLine, brokenLine}
 use Rattle.clamp_lines.specs.Places.{textMost}
 use Rattle.clamp_lines.specs.ClampPart.{whereChecked, clampPart}
 use Rattle.job.specs.declared.JobAnswer.{JobAnswer}
-use Rattle.job.specs.declared.JobAnswer.the-variants.{Job, Refused}
+use Rattle.job.specs.declared.JobAnswer.the-variants.{Job, Broken, Refused}
 
 -- the line on a curve: degree, points, non-empty spans
 abbrev pub curveText : ℕ → Lists → List ℕ
@@ -23,6 +24,11 @@ curveText m c = curveLine m (length (c .xs)) (spanCount m (c .knots) (length (c 
 unfoldable pub refusedPart : ℕ → ℕ → List ℕ
 refusedPart number zero = refusedLine number
 refusedPart number (suc k) = []
+
+-- part k of bytes that are no job: their line tells the place too. No job breaks further on than the longest one is long; of such a place nothing is told
+unfoldable pub brokenPart : ℕ → ℕ → ℕ → List ℕ
+brokenPart number place zero = cond (leb place jobMost) (brokenLine number place) []
+brokenPart number place (suc k) = []
 
 -- part k of a curve with `count` clamps; in the text they are numbered from 1
 unfoldable pub curvePart : ℕ → Lists → ℕ → List ℤ → ℕ → List ℕ
@@ -43,6 +49,7 @@ jobPart m points count now sides k =
 -- part k by the reader's answer
 abbrev pub answerPart : JobAnswer → Lists → List ℤ → ℕ → List ℕ
 answerPart (Job m points count) now sides k = jobPart m points count now sides k
+answerPart (Broken number place) now sides k = brokenPart number place k
 answerPart (Refused number) now sides k = refusedPart number k
 
 -- what a list with so many places receives of it: all, where it has places for the longest part, else nothing

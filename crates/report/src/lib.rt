@@ -9,7 +9,7 @@ ghost use Rattle.curve.specs.Lists.{lists};
 ghost use Rattle.digits.specs.Put.{Put};
 ghost use Rattle.clamp_lines.specs.Places.{textMost};
 ghost use Rattle.clamp_lines.specs.ClampPart.{whereChecked};
-ghost use Rattle.report.specs.Part.{refusedPart, curvePart, jobPart, partPut};
+ghost use Rattle.report.specs.Part.{refusedPart, brokenPart, curvePart, jobPart, partPut};
 
 // Part k of a refusal.
 fn put_refusal(number: u32, k: usize, text: &mut [u8]) -> usize
@@ -20,6 +20,20 @@ fn put_refusal(number: u32, k: usize, text: &mut [u8]) -> usize
         return 0;
     }
     lines::put_refused_line(text, 0, number)
+}
+
+// Part k of bytes that are no job.
+fn put_broken(number: u32, place: usize, k: usize, text: &mut [u8]) -> usize
+    requires { ⌜ textMost ≤ length (now text) ⌝ }
+    ensures result { λ r. ⌜ Put (now (text .entry)) 0 (brokenPart number place k) (now (text .exit)) r ⌝ }
+{
+    if k > 0 {
+        return 0;
+    }
+    if place > grid::JOB_MOST {
+        return 0;
+    }
+    lines::put_broken_line(text, 0, number, place as u32)
 }
 
 // Part k of a curve with its clamps.
@@ -96,6 +110,7 @@ pub fn put_part(
     }
     match answer {
         JobAnswer::Refused(number) => put_refusal(number, k, text),
+        JobAnswer::Broken { number, place } => put_broken(number, place, k, text),
         JobAnswer::Job {
             degree,
             points,

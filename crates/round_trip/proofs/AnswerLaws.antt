@@ -8,7 +8,7 @@ use lib.Dec.{eqb}
 use lib.IntN.{ℤ}
 use borrow.Author.Tests.{eqb-true, eqb-false}
 use Rattle.refusal.specs.Judging.{answered}
-use Rattle.refusal.specs.Numbers.{roomRefused, bytesRefused}
+use Rattle.refusal.specs.Numbers.{roomRefused}
 use Rattle.grid.specs.Check.{checkNumber, checkedThen}
 use Rattle.grid.proofs.CheckLaws.{checkedThen-split, checkNumber-most}
 
@@ -40,11 +40,10 @@ module _ {A B : Type 0} (done : B → A) (refused : ℕ → A) where
       by true t same = (eqb-true number 0 t, same)
       by false t same = absurd (apart number same)
 
-  -- a number of at most 15 gives no answer 16
-  pub never-sixteen : ((v : B) (n : ℕ) → done v ≡ refused n → ⊥) → ((n k : ℕ) → refused n ≡ refused k → n ≡ k)
-      → (number : ℕ) (v : B) → number ≤ roomRefused → answered done refused number v ≡ refused bytesRefused → ⊥
-  never-sixteen apart injective number v h e = by (eqb number 0) e
+  -- nor is such an answer anything that is neither
+  pub answered-other : (a : A) → ((v : B) → done v ≡ a → ⊥) → ((n : ℕ) → refused n ≡ a → ⊥) → (number : ℕ) (v : B) → answered done refused number v ≡ a → ⊥
+  answered-other a apart others number v e = by (eqb number 0) e
     where
-      by : (b : Bool) → cond b (done v) (refused number) ≡ refused bytesRefused → ⊥
-      by true a = apart v bytesRefused a
-      by false a = let same : number ≡ bytesRefused = injective number bytesRefused a in omega arith
+      by : (b : Bool) → cond b (done v) (refused number) ≡ a → ⊥
+      by true f = apart v f
+      by false f = others number f

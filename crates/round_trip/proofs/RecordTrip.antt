@@ -2,13 +2,13 @@
 use mathlib.Core.Bool.{true}
 use mathlib.Core.List.{List, [], _++_}
 use mathlib.Core.Logic.{_↔_}
-use mathlib.Core.Path.{_≡_, refl, sym, ap, _∙_, subst₂}
+use mathlib.Core.Path.{_≡_, refl, sym, ap, ap₂, _∙_, subst₂}
 use Prim.Native.Nat.{ℕ, _+_, _≤_}
 use native.Mathlib.Omega.{arith}
 use lib.Dec.{lit≤}
 use lib.ListN.{length}
 use Rattle.lent.specs.Lent.{over, after}
-use Rattle.refusal.specs.Numbers.{roomRefused, bytesRefused}
+use Rattle.refusal.specs.Numbers.{roomRefused}
 use Rattle.refusal.proofs.JudgingLaws.{unless-most}
 use Rattle.curve.specs.HandingOver.{roomFor, handedOver}
 use Rattle.curve.specs.Lists.{Lists}
@@ -20,21 +20,30 @@ use Rattle.grid.proofs.SizeLaws.{sizes-of-passes}
 use Rattle.format.specs.Format.{form1, recordBytes, IsRecord}
 use Rattle.format.proofs.InjectiveLaws.{Same, form1-injective}
 use Rattle.format.proofs.SizeLaws.{record-most}
+use Rattle.curve.proofs.HandingLaws.{handedOver-refused}
+use Rattle.fault.specs.Fault.{Fault}
+use Rattle.fault.specs.Kinds.{loneRecords}
+use Rattle.fault.specs.Verdict.{Verdict, numberOf}
+use Rattle.fault.proofs.OneFaultLaws.{one-fault, file-no-fault, fault-refuses}
 use Rattle.record.specs.Writing.{writeNumber, writeAnswer}
-use Rattle.record.specs.Reading.{recordNumber, readAnswer, RecordComesTo, RecordRead, isRecord, isNone}
+use Rattle.record.specs.Reading.{recordNumber, readAnswer, RecordComesTo, RecordRead, isRecord, isBroken}
 use Rattle.record.specs.declared.WriteAnswer.the-variants.{Written}
-use Rattle.record.specs.declared.ReadAnswer.the-variants.{Curve, Refused}
+use Rattle.record.specs.declared.ReadAnswer.the-variants.{Curve, Broken, Refused}
 use Rattle.record.proofs.WriteLaws.{write-done}
-use Rattle.round_trip.specs.RoundTrip.{frontOf, WrittenReadsBack, ReadWritesBack, OneRecordForEachCurve, SixteenExactly, ReadingDetermined, RecordsShort}
-use Rattle.round_trip.proofs.AnswerLaws.{checkedThen-zero, checkedThen-most, answered-value, never-sixteen}
+use Rattle.round_trip.specs.RoundTrip.{frontOf, WrittenReadsBack, ReadWritesBack, OneRecordForEachCurve, FaultsExactly, ReadingDetermined, RecordsShort}
+use Rattle.round_trip.proofs.AnswerLaws.{checkedThen-zero, checkedThen-most, answered-value, answered-other}
 use Rattle.round_trip.proofs.StorableLaws.{passes-storable}
 
--- a curve is no refusal, and a refusal tells its number
+-- a curve is no refusal
 curve-apart : (m n number : ℕ) → Curve m n ≡ Refused number → ⊥
 curve-apart m n number e = let z : _≡_ {A = ℕ} 0 1 = cc in omega arith
 
-refused-injective : (n k : ℕ) → Refused n ≡ Refused k → n ≡ k
-refused-injective n k e = cc
+-- broken bytes are neither
+broken-curve : (number place m n : ℕ) → Broken number place ≡ Curve m n → ⊥
+broken-curve number place m n e = let z : _≡_ {A = ℕ} 0 1 = cc in omega arith
+
+broken-refused : (number place n : ℕ) → Broken number place ≡ Refused n → ⊥
+broken-refused number place n e = let z : _≡_ {A = ℕ} 0 1 = cc in omega arith
 
 -- the lists that bytes are the record of are one
 one-record : {bytes : List ℕ} (w v : IsRecord form1 bytes) → Same (w .m) (w .c) [] (v .m) (v .c) []
@@ -42,12 +51,16 @@ one-record w v =
     form1-injective (w .m) (w .c) [] (v .m) (v .c) [] (w .storable) (v .storable) (ap (λ (l : List ℕ). l ++ []) (sym (w .same) ∙ v .same))
 
 -- whatever bytes come to, the answer and the lists are one
-one-outcome : {bytes : List ℕ} {before : Lists} {n m k d : ℕ} {c e : Lists} → RecordComesTo bytes before n m c → RecordComesTo bytes before k d e
-    → (readAnswer n m (length (c .xs)) ≡ readAnswer k d (length (e .xs))) × (handedOver n c before ≡ handedOver k e before)
+one-outcome : {bytes : List ℕ} {before : Lists} {s t : Verdict} {m d : ℕ} {c e : Lists} → RecordComesTo bytes before s m c → RecordComesTo bytes before t d e
+    → (readAnswer s m (length (c .xs)) ≡ readAnswer t d (length (e .xs))) × (handedOver (numberOf s) c before ≡ handedOver (numberOf t) e before)
 one-outcome (isRecord w) (isRecord v) = let same = one-record w v in (rw (same .degree, same .curve), rw (same .degree, same .curve))
-one-outcome (isRecord w) (isNone f d e) = absurd (f w)
-one-outcome (isNone f m c) (isRecord v) = absurd (f v)
-one-outcome (isNone f m c) (isNone g d e) = (refl, refl)
+one-outcome {bytes = bytes} (isRecord w) (isBroken g d e) = absurd (file-no-fault loneRecords bytes g w)
+one-outcome {bytes = bytes} (isBroken f m c) (isRecord v) = absurd (file-no-fault loneRecords bytes f v)
+one-outcome {bytes = bytes} {before = before} (isBroken {number = n} f m c) (isBroken {number = k} g d e) =
+    let same = one-fault loneRecords bytes f g in (
+      ap₂ Broken (same .0) (same .1),
+      handedOver-refused n c before (fault-refuses loneRecords bytes f) ∙ sym (handedOver-refused k e before (fault-refuses loneRecords bytes g)),
+    )
 
 pub reading-determined : ReadingDetermined
 reading-determined bytes before answer other now then p q =
@@ -88,9 +101,9 @@ module _ (bytes : List ℕ) (before : Lists) (m n : ℕ) (now : Lists) where
       (over-front (w .c .ys) (before .ys) (now .ys) n (omega (arith, sizes .as-many)) (same-ys h)) in
       subst₂ (Stored bytes) (sym isM) (sym front) (record { passes = p; same = w .same })
 
-  stored-by : {number d : ℕ} {c : Lists} → RecordComesTo bytes before number d c → Curve m n ≡ readAnswer number d (length (c .xs)) → now ≡ handedOver number c before
-      → Stored bytes m (frontOf m n now)
-  stored-by (isNone f d c) e h = absurd (curve-apart m n bytesRefused e)
+  stored-by : {verdict : Verdict} {d : ℕ} {c : Lists} → RecordComesTo bytes before verdict d c → Curve m n ≡ readAnswer verdict d (length (c .xs))
+      → now ≡ handedOver (numberOf verdict) c before → Stored bytes m (frontOf m n now)
+  stored-by (isBroken {number = number} {place = place} f d c) e h = absurd (broken-curve number place m n (sym e))
   stored-by (isRecord w) e h =
       let a = answered-value (Curve (w .m)) Refused (Curve m n) (curve-apart m n) (recordNumber (w .m) (w .c) before) (length (w .c .xs)) e in
       front-stored w (a .0) (a .1) (h ∙ ap (λ (k : ℕ). handedOver k (w .c) before) (a .0))
@@ -112,22 +125,30 @@ pub one-record-for-each-curve : OneRecordForEachCurve
 one-record-for-each-curve bytes others before lent m n now then p q same =
     read-stored bytes before m n now p .same ∙ ap (recordBytes form1 m) same ∙ sym (read-stored others lent m n then q .same)
 
-number-most : (m : ℕ) (c before : Lists) → recordNumber m c before ≤ roomRefused
+pub number-most : (m : ℕ) (c before : Lists) → recordNumber m c before ≤ roomRefused
 unfolding recordNumber
 number-most m c before = checkedThen-most m (c .knots) (c .xs) (c .ys) _ (unless-most (roomFor c before) roomRefused 0 roomRefused (lit≤ tt) (lit≤ tt))
 
-sixteen-by : {bytes : List ℕ} {before : Lists} {number m : ℕ} {c : Lists} → RecordComesTo bytes before number m c
-    → (readAnswer number m (length (c .xs)) ≡ Refused bytesRefused) ↔ (IsRecord form1 bytes → ⊥)
-sixteen-by (isNone f m c) = (λ _. f, λ _. refl)
-sixteen-by {before = before} (isRecord w) = (
-  λ e. absurd (never-sixteen (Curve (w .m)) Refused (curve-apart (w .m)) refused-injective (recordNumber (w .m) (w .c) before) (length (w .c .xs)) (number-most (w .m) (w .c) before) e),
-  λ f. absurd (f w),
+faults-by : {bytes : List ℕ} {before : Lists} {verdict : Verdict} {m : ℕ} {c : Lists} (number place : ℕ) → RecordComesTo bytes before verdict m c
+    → (readAnswer verdict m (length (c .xs)) ≡ Broken number place) ↔ Fault loneRecords bytes number place
+faults-by {bytes = bytes} number place (isBroken {number = n} {place = p} f m c) = (
+  λ e.
+      let isNumber : n ≡ number = cc in
+      let isPlace : p ≡ place = cc in
+      subst₂ (Fault loneRecords bytes) isNumber isPlace f,
+  λ g. let same = one-fault loneRecords bytes f g in ap₂ Broken (same .0) (same .1),
+)
+faults-by {bytes = bytes} {before = before} number place (isRecord w) = (
+  λ e. absurd
+      (answered-other (Curve (w .m)) Refused (Broken number place) (λ n f. broken-curve number place (w .m) n (sym f)) (λ n f. broken-refused number place n (sym f))
+      (recordNumber (w .m) (w .c) before) (length (w .c .xs)) e),
+  λ g. absurd (file-no-fault loneRecords bytes g w),
 )
 
-pub sixteen-exactly : SixteenExactly
-sixteen-exactly bytes before answer now read =
-    let by = sixteen-by (read .comesTo) in
-    (λ e. by .0 (sym (read .answers) ∙ e), λ f. read .answers ∙ by .1 f)
+pub faults-exactly : FaultsExactly
+faults-exactly bytes before answer now number place read =
+    let by = faults-by number place (read .comesTo) in
+    (λ e. by .0 (sym (read .answers) ∙ e), λ g. read .answers ∙ by .1 g)
 
 pub records-short : RecordsShort
 records-short bytes w = rw (w .same) (record-most (w .m) (w .c) (w .storable))

@@ -7,22 +7,25 @@ use Prim.Native.Nat.{ℕ, _+_, _≤_}
 use lib.IntN.{ℤ}
 use lib.ListN.{length, take}
 use Rattle.lent.specs.Lent.{over, after}
-use Rattle.refusal.specs.Numbers.{accepted, bytesRefused}
+use Rattle.refusal.specs.Numbers.{accepted}
 use Rattle.curve.specs.HandingOver.{roomFor, handedOver}
 use Rattle.curve.specs.Lists.{Lists, lists}
 use Rattle.grid.specs.Check.{Passes}
 use Rattle.grid.specs.Limits.{recordMost, jobMost}
 use Rattle.format.specs.Format.{form1, recordBytes, IsRecord}
+use Rattle.fault.specs.Fault.{Fault}
+use Rattle.fault.specs.Kinds.{loneRecords}
+use Rattle.fault.specs.Verdict.{judged}
 use Rattle.clamps.specs.Clamp.{Clamp, allSides}
 use Rattle.record.specs.Writing.{writeNumber, writeAnswer}
 use Rattle.record.specs.Reading.{RecordRead}
 use Rattle.record.specs.declared.WriteAnswer.the-variants.{Written}
 use Rattle.record.specs.declared.ReadAnswer.{ReadAnswer}
-use Rattle.record.specs.declared.ReadAnswer.the-variants.{Curve, Refused}
-use Rattle.job.specs.JobFormat.{jobBytes, StorableJob, IsJob}
+use Rattle.record.specs.declared.ReadAnswer.the-variants.{Curve, Broken}
+use Rattle.job.specs.JobFormat.{jobBytes, StorableJob, IsJob, jobs}
 use Rattle.job.specs.JobReading.{jobNumber, jobAnswer, JobRead}
 use Rattle.job.specs.declared.JobAnswer.{JobAnswer}
-use Rattle.job.specs.declared.JobAnswer.the-variants.{Refused as JobRefused}
+use Rattle.job.specs.declared.JobAnswer.the-variants.{Broken as JobBroken}
 
 -- a curve of degree m and n points at the front of three lists: it has n + m + 1 knots
 abbrev pub frontOf : ℕ → ℕ → Lists → Lists
@@ -47,11 +50,11 @@ OneRecordForEachCurve =
     (bytes others : List ℕ) (before lent : Lists) (m n : ℕ) (now then : Lists)
     → RecordRead bytes before (Curve m n) now → RecordRead others lent (Curve m n) then → frontOf m n now ≡ frontOf m n then → bytes ≡ others
 
--- a record is refused 16 exactly where the bytes are no lists' record
-abbrev pub SixteenExactly : Type 0
-SixteenExactly =
-    (bytes : List ℕ) (before : Lists) (answer : ReadAnswer) (now : Lists)
-    → RecordRead bytes before answer now → (answer ≡ Refused bytesRefused) ↔ (IsRecord form1 bytes → ⊥)
+-- reading a record tells a fault exactly where it is the bytes' leftmost one
+abbrev pub FaultsExactly : Type 0
+FaultsExactly =
+    (bytes : List ℕ) (before : Lists) (answer : ReadAnswer) (now : Lists) (number place : ℕ)
+    → RecordRead bytes before answer now → (answer ≡ Broken number place) ↔ Fault loneRecords bytes number place
 
 -- reading a record has one outcome
 abbrev pub ReadingDetermined : Type 0
@@ -72,15 +75,15 @@ JobReadsBack =
     (m : ℕ) (c : Lists) (cs : List Clamp) → StorableJob form1 m c cs
     → (before : Lists) (sidesBefore : List ℤ) (answer : JobAnswer) (now : Lists) (sidesNow : List ℤ)
     → JobRead (jobBytes form1 m c cs) before sidesBefore answer now sidesNow
-    → (answer ≡ jobAnswer (jobNumber m c cs before (length sidesBefore)) m (length (c .xs)) (length cs))
+    → (answer ≡ jobAnswer (judged (jobNumber m c cs before (length sidesBefore))) m (length (c .xs)) (length cs))
     × (now ≡ handedOver (jobNumber m c cs before (length sidesBefore)) c before)
     × (sidesNow ≡ after (jobNumber m c cs before (length sidesBefore)) (allSides cs) sidesBefore)
 
--- a job is refused 16 exactly where the bytes are no lists' job
-abbrev pub JobSixteenExactly : Type 0
-JobSixteenExactly =
-    (bytes : List ℕ) (before : Lists) (sidesBefore : List ℤ) (answer : JobAnswer) (now : Lists) (sidesNow : List ℤ)
-    → JobRead bytes before sidesBefore answer now sidesNow → (answer ≡ JobRefused bytesRefused) ↔ (IsJob form1 bytes → ⊥)
+-- reading a job tells a fault exactly where it is the bytes' leftmost one
+abbrev pub JobFaultsExactly : Type 0
+JobFaultsExactly =
+    (bytes : List ℕ) (before : Lists) (sidesBefore : List ℤ) (answer : JobAnswer) (now : Lists) (sidesNow : List ℤ) (number place : ℕ)
+    → JobRead bytes before sidesBefore answer now sidesNow → (answer ≡ JobBroken number place) ↔ Fault jobs bytes number place
 
 -- reading a job has one outcome
 abbrev pub JobReadingDetermined : Type 0

@@ -1,6 +1,7 @@
 -- The answer types of the wrapped calls: their two variants are apart.
-use mathlib.Core.Path.{_≡_}
+use mathlib.Core.Path.{_≡_, ap₂}
 use Prim.Native.Nat.{ℕ}
+use Rattle.fault.specs.Verdict.{broken}
 use Rattle.point_at.specs.declared.PointAnswer.the-variants as pointed
 use Rattle.spans_met.specs.declared.SpansAnswer.the-variants as listed
 use Rattle.insert_knot.specs.declared.InsertAnswer.the-variants as inserted
@@ -10,7 +11,7 @@ use Rattle.joining.specs.declared.JoinAnswer.the-variants as joined
 use Rattle.record.specs.declared.WriteAnswer.the-variants as written
 use Rattle.record.specs.declared.ReadAnswer.the-variants as read
 use Rattle.job.specs.declared.JobAnswer.the-variants as job
-use Rattle.tsaghnobir.proofs.ArmLaws.{Variants}
+use Rattle.tsaghnobir.proofs.ArmLaws.{Variants, Told}
 
 pub point-variants : Variants pointed.At pointed.Refused
 point-variants = record { apart = λ v n e. cc; same-value = λ v w e. cc; same-number = λ m n e. cc }
@@ -40,8 +41,17 @@ same-curve (a, b) (c, d) e =
     let points : b ≡ d = cc in
     rw (degree, points)
 
-pub read-variants : Variants (λ (v : ℕ × ℕ). read.Curve (v .0) (v .1)) read.Refused
+read-variants : Variants (λ (v : ℕ × ℕ). read.Curve (v .0) (v .1)) read.Refused
 read-variants = record { apart = λ v n e. cc; same-value = same-curve; same-number = λ m n e. cc }
+
+pub read-told : Told (λ (v : ℕ × ℕ). read.Curve (v .0) (v .1)) read.Refused read.Broken
+read-told = record { two = read-variants; not-done = λ n p v e. cc; not-refused = λ n p k e. cc; same-fault = same-place }
+  where
+    same-place : (n p k q : ℕ) → read.Broken n p ≡ read.Broken k q → broken n p ≡ broken k q
+    same-place n p k q e =
+        let number : n ≡ k = cc in
+        let place : p ≡ q = cc in
+        ap₂ broken number place
 
 -- degree, number of points and number of clamps
 same-job : (v w : ℕ × ℕ × ℕ) → job.Job (v .0) (v .1) (v .2) ≡ job.Job (w .0) (w .1) (w .2) → v ≡ w
@@ -51,5 +61,14 @@ same-job (a, b, c) (d, f, g) e =
     let clamps : c ≡ g = cc in
     rw (degree, points, clamps)
 
-pub job-variants : Variants (λ (v : ℕ × ℕ × ℕ). job.Job (v .0) (v .1) (v .2)) job.Refused
+job-variants : Variants (λ (v : ℕ × ℕ × ℕ). job.Job (v .0) (v .1) (v .2)) job.Refused
 job-variants = record { apart = λ v n e. cc; same-value = same-job; same-number = λ m n e. cc }
+
+pub job-told : Told (λ (v : ℕ × ℕ × ℕ). job.Job (v .0) (v .1) (v .2)) job.Refused job.Broken
+job-told = record { two = job-variants; not-done = λ n p v e. cc; not-refused = λ n p k e. cc; same-fault = same-place }
+  where
+    same-place : (n p k q : ℕ) → job.Broken n p ≡ job.Broken k q → broken n p ≡ broken k q
+    same-place n p k q e =
+        let number : n ≡ k = cc in
+        let place : p ≡ q = cc in
+        ap₂ broken number place

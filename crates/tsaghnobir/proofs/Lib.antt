@@ -3,5 +3,5 @@ pub mod Answers
 pub mod ArmLaws
 mod CompactLaws
 mod HandsBackLaws
-mod ReadingLaws
+pub mod ReadingLaws
 mod SpansLaws

@@ -11,6 +11,7 @@ use Rattle.curve.specs.HandingOver.{handedOver}
 use Rattle.removal.specs.Outcome.{RemovalComesTo}
 use Rattle.compaction.specs.Outcome.{CompactionComesTo, knotsTaken}
 use Rattle.clamps.specs.Clamp.{Clamp, allSides}
+use Rattle.fault.specs.Verdict.{Verdict, numberOf, placeOr}
 use Rattle.record.specs.Reading.{RecordComesTo}
 use Rattle.job.specs.JobReading.{JobComesTo}
 use Rattle.tsaghnobir.specs.Places.{placed}
@@ -30,20 +31,26 @@ RemovalHandsBack m c v before = HandsBack (RemovalComesTo m c v before) (λ d. l
 abbrev pub CompactionHandsBack : ℕ → Lists → Lists → ℕ × ℕ → ℕ → Lists → ℕ × ℕ → Type 0
 CompactionHandsBack m c before = HandsBack (CompactionComesTo m c before) (λ d. (length (d .xs), knotsTaken c d)) before
 
--- reading a record: degree and number of points
-pub record RecordHandsBack (bytes : List ℕ) (before : Lists) (held : ℕ × ℕ) (number : ℕ) (now : Lists) (holds : ℕ × ℕ) : Type 0 where
+-- reading a record: degree and number of points, and the place of a fault
+pub record RecordHandsBack (bytes : List ℕ) (before : Lists) (held : ℕ × ℕ × ℕ) (number : ℕ) (now : Lists) (holds : ℕ × ℕ × ℕ) : Type 0 where
+  pub verdict : Verdict
   pub m : ℕ
   pub c : Lists
-  pub comesTo : RecordComesTo bytes before number m c
+  pub comesTo : RecordComesTo bytes before verdict m c
+  pub answers : number ≡ numberOf verdict
   pub hands : now ≡ handedOver number c before
-  pub places : holds ≡ placed number (m, length (c .xs)) held
+  pub places : holds ≡ (placed number m (held .0), placed number (length (c .xs)) (held .1), placeOr verdict (held .2))
 
--- reading a job: degree, number of points and number of clamps; the clamps' sides go to a fourth list
-pub record JobHandsBack (bytes : List ℕ) (before : Lists) (sidesBefore : List ℤ) (held : ℕ × ℕ × ℕ) (number : ℕ) (now : Lists) (sidesNow : List ℤ) (holds : ℕ × ℕ × ℕ) : Type 0 where
+-- reading a job: degree, number of points and number of clamps, and the place of a fault; the clamps' sides go to a fourth list
+pub record JobHandsBack (bytes : List ℕ) (before : Lists) (sidesBefore : List ℤ) (held : ℕ × ℕ × ℕ × ℕ) (number : ℕ) (now : Lists) (sidesNow : List ℤ)
+    (holds : ℕ × ℕ × ℕ × ℕ) : Type 0 where
+  pub verdict : Verdict
   pub m : ℕ
   pub c : Lists
   pub cs : List Clamp
-  pub comesTo : JobComesTo bytes before (length sidesBefore) number m c cs
+  pub comesTo : JobComesTo bytes before (length sidesBefore) verdict m c cs
+  pub answers : number ≡ numberOf verdict
   pub hands : now ≡ handedOver number c before
   pub clampsNow : sidesNow ≡ after number (allSides cs) sidesBefore
-  pub places : holds ≡ placed number (m, length (c .xs), length cs) held
+  pub places : holds
+      ≡ (placed number m (held .0), placed number (length (c .xs)) (held .1), placed number (length cs) (held .2), placeOr verdict (held .3))

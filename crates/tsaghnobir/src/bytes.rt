@@ -44,10 +44,11 @@ pub extern "C" fn tsb_read_record(
     out_ys: &mut [i32],
     degree: &mut u32,
     points: &mut usize,
+    place: &mut usize,
 ) -> u32
-    ensures answer { λ r. ⌜ RecordHandsBack (now (bytes .entry))
-        (lists (now («out_knots» .entry)) (now («out_xs» .entry)) (now («out_ys» .entry))) (now (degree .entry), now (points .entry)) r
-        (lists (now («out_knots» .exit)) (now («out_xs» .exit)) (now («out_ys» .exit))) (now (degree .exit), now (points .exit)) ⌝ }
+    ensures answer { λ r. ⌜ RecordHandsBack (now (bytes .entry)) (lists (now («out_knots» .entry)) (now («out_xs» .entry)) (now («out_ys» .entry)))
+        (now (degree .entry), now (points .entry), now (place .entry)) r
+        (lists (now («out_knots» .exit)) (now («out_xs» .exit)) (now («out_ys» .exit))) (now (degree .exit), now (points .exit), now (place .exit)) ⌝ }
 {
     let answer = record::read_record(bytes, out_knots, out_xs, out_ys);
     match answer {
@@ -58,6 +59,10 @@ pub extern "C" fn tsb_read_record(
             *degree = m;
             *points = count;
             refusal::ACCEPTED
+        }
+        ReadAnswer::Broken { number, place: at } => {
+            *place = at;
+            number
         }
         ReadAnswer::Refused(number) => number,
     }
@@ -73,11 +78,12 @@ pub extern "C" fn tsb_read_job(
     degree: &mut u32,
     points: &mut usize,
     clamp_count: &mut usize,
+    place: &mut usize,
 ) -> u32
     ensures answer { λ r. ⌜ JobHandsBack (now (bytes .entry)) (lists (now («out_knots» .entry)) (now («out_xs» .entry)) (now («out_ys» .entry)))
-        (now (clamps .entry)) (now (degree .entry), now (points .entry), now («clamp_count» .entry)) r
+        (now (clamps .entry)) (now (degree .entry), now (points .entry), now («clamp_count» .entry), now (place .entry)) r
         (lists (now («out_knots» .exit)) (now («out_xs» .exit)) (now («out_ys» .exit))) (now (clamps .exit))
-        (now (degree .exit), now (points .exit), now («clamp_count» .exit)) ⌝ }
+        (now (degree .exit), now (points .exit), now («clamp_count» .exit), now (place .exit)) ⌝ }
 {
     let answer = job::read_job(bytes, out_knots, out_xs, out_ys, clamps);
     match answer {
@@ -90,6 +96,10 @@ pub extern "C" fn tsb_read_job(
             *points = count;
             *clamp_count = sides;
             refusal::ACCEPTED
+        }
+        JobAnswer::Broken { number, place: at } => {
+            *place = at;
+            number
         }
         JobAnswer::Refused(number) => number,
     }

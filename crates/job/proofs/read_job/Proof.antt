@@ -5,19 +5,25 @@ use Prim.Native.Nat.{_/_}
 use native.Mathlib.Nat.{le-of-eq}
 use lib.ListN.{length}
 use Rattle.curve.specs.Lists.{lists}
+use Rattle.curve.proofs.HandingLaws.{handedOver-refused}
 use Rattle.fields.specs.Bytes.{Octets}
 use Rattle.fields.proofs.PlaceLaws.{length-entriesAt}
 use Rattle.format.specs.RecordPlaces.{recordEnd}
 use Rattle.layout.specs.StoredCurve.{degreeIn, curveIn}
 use Rattle.layout.proofs.StoredLaws.{stored-xs}
 use Rattle.clamps.specs.Clamp.{clampFieldBytes, clampAt}
+use Rattle.fault.specs.Verdict.{judged, broken}
+use Rattle.fault.proofs.OneFaultLaws.{fault-refuses}
+use Rattle.job.specs.JobFormat.{jobs}
 use Rattle.job.specs.JobJudging.{jobLayout}
-use Rattle.job.specs.JobReading.{isJob, isNone}
+use Rattle.job.specs.JobReading.{isJob, isBroken}
 use Rattle.job.specs.StoredJob.{clampsIn, storedNumber}
 use Rattle.job.specs.declared.JobLayout.the-variants.{Sound}
 use Rattle.job.proofs.JobReadLaws.{job-counted}
-use Rattle.job.proofs.JobLayoutLaws.{job-joined, job-run, job-few, job-of-sound, unsound-no-job}
+use Rattle.job.proofs.JobLayoutLaws.{job-joined, job-run, job-few, job-of-sound}
+use Rattle.job.proofs.JobFaultLaws.{job-fault}
 use borrow.Author.Needs.{needs}
+use borrow.Author.Tests.{ne-eqb}
 use Rattle.job.proofs.read_job.Statement.{statement}
 use Rattle.job.proofs.read_job.Tie as tie
 
@@ -42,8 +48,8 @@ read-sound-requires c κs =
     let octets = octetsIn (c .before .before .before .before .before .before .before .before .before) in
     (job-joined _ _ _ _ bytes known .curve, (le-of-eq (job-run bytes octets _ _ _ _ known .ends), job-few bytes octets _ _ _ _ known))
 
-enum-told : tie.Need-enum-told
-enum-told c = search needs
+enum-known-found : tie.Need-enum-known-found
+enum-known-found c = search needs
 
 same-length : tie.Need-same-length
 same-length c = search needs
@@ -68,13 +74,13 @@ returns c =
     let number = storedNumber bytes k x y n (lists (s .args .out-knots .now) (s .args .out-xs .now) (s .args .out-ys .now)) (length (s .args .clamps .now)) in
     let read = c .before .before .before .before .before .read-sound .ensures in
     record {
-      number = number;
+      verdict = judged number;
       m = degreeIn bytes;
       c = curveIn bytes k x y;
       cs = clampsIn bytes k x y n;
       comesTo = isJob (job-of-sound bytes (octetsIn (c .before .before .before .before .before .before .before .before .before .before .before .before .before .before .before)) k x y n (sound (c .before .before .before .before .before .before .before .before .before .before)));
       answers =
-          job-counted _ number (degreeIn bytes) (x / 4) n _ _ (read .answers) (stored-xs bytes k x y)
+          job-counted _ (judged number) (degreeIn bytes) (x / 4) n _ _ (read .answers) (stored-xs bytes k x y)
           (length-entriesAt (clampAt bytes) clampFieldBytes (recordEnd k x y) n);
       hands = read .hands;
       clampsNow = read .clampsNow;
@@ -82,10 +88,22 @@ returns c =
 
 returns-2 : tie.Need-returns-2
 returns-2 c =
-    let s = c .before .before .before .before .before in
+    let s = c .before .before .before .before .before .before in
     let before = lists (s .args .out-knots .now) (s .args .out-xs .now) (s .args .out-ys .now) in
-    let nobodys = unsound-no-job (s .args .bytes .now) _ (sym (c .before .before .job-layout .ensures) ∙ c .enum-told .given .1) in
-    record { number = 16; m = 0; c = before; cs = []; comesTo = isNone nobodys 0 before []; answers = refl; hands = refl; clampsNow = refl }
+    let found = c .before .found .given .0 .0 in
+    let breaks = sym (c .before .before .before .job-layout .ensures) ∙ c .before .found .given .1 in
+    let fault = job-fault (s .args .bytes .now) (octetsIn (c .before .before .before .before .before)) found breaks in
+    let refused = fault-refuses jobs (s .args .bytes .now) fault in
+    record {
+      verdict = broken (found .number) (found .place);
+      m = 0;
+      c = before;
+      cs = [];
+      comesTo = isBroken fault 0 before [];
+      answers = refl;
+      hands = sym (handedOver-refused (found .number) before before refused);
+      clampsNow = rw (ne-eqb (found .number) 0 refused);
+    }
 
 pub read-job-spec : {M : Type 1} → statement M
 read-job-spec =
@@ -94,7 +112,7 @@ read-job-spec =
     job-layout-requires
     enum-known-knots
     read-sound-requires
-    enum-told
+    enum-known-found
     same-length
     same-length-2
     same-length-3

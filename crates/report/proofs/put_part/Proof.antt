@@ -22,6 +22,12 @@ put-refusal-requires c κs = search needs
 enum-known-answer-2 : tie.Need-enum-known-answer-2
 enum-known-answer-2 c = search needs
 
+put-broken-requires : tie.Need-put-broken-requires
+put-broken-requires c κs = search needs
+
+enum-known-answer-3 : tie.Need-enum-known-answer-3
+enum-known-answer-3 c = search needs
+
 put-job-requires : tie.Need-put-job-requires
 put-job-requires c κs = search needs
 
@@ -39,7 +45,15 @@ same-length-2 c = search needs
 returns-3 : tie.Need-returns-3
 returns-3 c =
     let a = c .before .before .before .before .before .before .before .before .before .before .args in
-    rw (le-leb textMost (length (a .text .now)) (omega arith), c .before .before .before .before .before .answer2 .given .1) (c .before .before .put-job .ensures)
+    rw (le-leb textMost (length (a .text .now)) (omega arith), c .before .before .before .before .before .answer2 .given .1) (c .before .before .put-broken .ensures)
+
+same-length-3 : tie.Need-same-length-3
+same-length-3 c = search needs
+
+returns-4 : tie.Need-returns-4
+returns-4 c =
+    let a = c .before .before .before .before .before .before .before .before .before .before .args in
+    rw (le-leb textMost (length (a .text .now)) (omega arith), c .before .before .before .before .before .answer3 .given .1) (c .before .before .put-job .ensures)
 
 pub put-part-spec : {M : Type 1} → statement M
 put-part-spec =
@@ -49,8 +63,12 @@ put-part-spec =
     enum-known-answer
     put-refusal-requires
     enum-known-answer-2
+    put-broken-requires
+    enum-known-answer-3
     put-job-requires
     same-length
     returns-2
     same-length-2
-    returns-3)
+    returns-3
+    same-length-3
+    returns-4)

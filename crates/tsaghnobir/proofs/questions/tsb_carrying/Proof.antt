@@ -1,10 +1,9 @@
 -- `tsaghnobir::tsb_carrying` meets its contract: an accepted parameter has its span inside the lists.
-use mathlib.Core.Path.{_≡_, refl, sym, _∙_, ap}
+use mathlib.Core.Path.{_≡_, refl, sym, _∙_}
 use Prim.Native.Nat.{ℕ, _-_}
 use native.Mathlib.Omega.{arith}
 use denote.Ref.{now}
 use lib.ListN.{length}
-use borrow.Author.Tests.{eq-eqb}
 use borrow.Author.Needs.{needs}
 use Rattle.span.specs.Span.{spanOf}
 use Rattle.domain.proofs.ParameterLaws.{Within, accepted-within}

@@ -1,0 +1,1 @@
+// Where judging finds bytes broken, there is their leftmost fault. There is nothing here that runs.

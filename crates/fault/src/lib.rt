@@ -1,0 +1,1 @@
+// Where bytes that are no file of their kind first break. There is nothing here that runs.

@@ -1,0 +1,157 @@
+-- A job has its leftmost fault where judging finds its break, and none exactly where it is judged sound.
+use mathlib.Core.Logic.{_⊎_, inl, inr}
+use mathlib.Core.Path.{_≡_, refl, sym, ap, _∙_, subst}
+use mathlib.Core.List.{List, _∷_, _++_, append-assoc}
+use Prim.Native.Nat.{ℕ, _+_, _*_, _≤_}
+use native.Mathlib.Omega.{arith}
+use lib.ListN.{length, take, length-append}
+use Rattle.grid.specs.Limits.{clampsMost, jobMost}
+use Rattle.fields.specs.Bytes.{Octets}
+use Rattle.fields.proofs.PlaceLaws.{length-each}
+use Rattle.format.specs.Format.{form1, recordBytes}
+use Rattle.format.specs.RecordPlaces.{recordEnd}
+use Rattle.format.proofs.InjectiveLaws.{form1-injective}
+use Rattle.fault.specs.Fault.{WholeFields, Fault}
+use Rattle.fault.specs.Told.{FaultsTold}
+use Rattle.format.proofs.SizeLaws.{record-most}
+use Rattle.fault.proofs.WithinLaws.{fault-most, fault-kept}
+use Rattle.fault.proofs.OneFaultLaws.{one-fault, file-no-fault}
+use Rattle.fault.proofs.LeftOverLaws.{left-over-there}
+use Rattle.fault.proofs.ChainLaws.{SameKind, fault-same, Row, upTo-some, row-fields}
+use Rattle.layout.specs.Judging.{lengthOk, recordLayout}
+use Rattle.layout.specs.declared.Break.{Break}
+use Rattle.layout.specs.declared.Layout.{Layout}
+use Rattle.layout.specs.declared.Layout.the-variants.{Sound as Curve, Broken as NoCurve}
+use Rattle.layout.proofs.SplitLaws.{layout-inside}
+use Rattle.breaks.proofs.ChainLaws.{recordThen, RecordAhead, InFields, record-fields, fields-record}
+use Rattle.breaks.proofs.FaultLaws.{BreaksFrom, record-breaks, break-behind-record, breaks-fault}
+use Rattle.breaks.proofs.LoneLaws.{fields-whole}
+use Rattle.clamps.specs.Clamp.{clampTag, clampFieldBytes, clampField, clampFields}
+use Rattle.clamps.specs.Tail.{clampRule, clampsBehind}
+use Rattle.clamps.specs.declared.Tail.{Tail}
+use Rattle.clamps.specs.declared.Tail.the-variants.{Clamps, Broken as NoClamps}
+use Rattle.clamps.proofs.RowLaws.{clampsUpTo, clamps-row, Clamped, row-clamps, clamps-break}
+use Rattle.job.specs.JobFormat.{jobBytes, IsJob, FullJob, jobs}
+use Rattle.job.specs.Sentences.{JobFaultKept}
+use Rattle.job.specs.JobJudging.{withClamps, fromRecord, jobLayout}
+use Rattle.job.specs.declared.JobLayout.{JobLayout}
+use Rattle.job.specs.declared.JobLayout.the-variants.{Sound, Broken}
+use Rattle.job.proofs.JobLayoutLaws.{unsound, job-of-sound}
+
+-- a record and a row of clamps' fields behind it are a job with so many clamps
+row-job : (k : ℕ) → k ≤ clampsMost → (bytes : List ℕ) → RecordAhead (Row clampTag (lengthOk clampRule) k) bytes → (w : IsJob form1 bytes) × (length (w .cs) ≡ k)
+unfolding jobBytes
+row-job k few bytes r =
+    let clamped : Clamped k (r .rest) = row-clamps k (r .rest) (r .behind) in (
+      record {
+        m = r .m;
+        c = r .c;
+        cs = clamped .cs;
+        storable = record { curve = r .storable; clamps = clamped .fit; few = omega (arith, clamped .many) };
+        same = r .same ∙ ap (λ (l : List ℕ). recordBytes form1 (r .m) (r .c) ++ l) (clamped .same);
+      },
+      clamped .many,
+    )
+
+-- and a job is such
+job-fields : (P : List ℕ → Type 0) (bytes : List ℕ) (w : IsJob form1 bytes) → P (clampFields (w .cs)) → InFields P bytes
+unfolding jobBytes
+job-fields P bytes w behind =
+    record-fields P bytes
+    (record {
+      m = w .m;
+      c = w .c;
+      rest = clampFields (w .cs);
+      storable = w .storable .curve;
+      same = w .same;
+      behind = behind;
+    })
+
+-- a row of some clamps, counted by their number
+row-of : (bytes : List ℕ) (w : IsJob form1 bytes) (k : ℕ) → length (w .cs) ≡ k → Row clampTag (lengthOk clampRule) k (clampFields (w .cs))
+row-of bytes w k e = subst (λ (n : ℕ). Row clampTag (lengthOk clampRule) n (clampFields (w .cs))) e (clamps-row (w .cs))
+
+job-kind : SameKind (recordThen (clampsUpTo clampsMost)) jobs
+job-kind =
+    record {
+      into = λ bytes f.
+          let r = fields-record (clampsUpTo clampsMost .Is) bytes f in
+          row-job (r .behind .0) (r .behind .1) bytes (record { m = r .m; c = r .c; rest = r .rest; storable = r .storable; same = r .same; behind = r .behind .2 }) .0;
+      from = λ bytes w. job-fields (clampsUpTo clampsMost .Is) bytes w (length (w .cs), w .storable .few, clamps-row (w .cs));
+      fullInto = λ bytes f. let w = row-job clampsMost (omega arith) bytes (fields-record (clampsUpTo clampsMost .Full) bytes f) in record { job = w .0; many = w .1 };
+      fullFrom = λ bytes w. job-fields (clampsUpTo clampsMost .Full) bytes (w .job) (row-of bytes (w .job) clampsMost (w .many));
+    }
+
+module _ (bytes : List ℕ) (octets : Octets bytes) (found : Break) where
+  by-tail : (k x y : ℕ) → recordLayout bytes ≡ Curve k x y → (t : Tail) → clampsBehind bytes (recordEnd k x y) ≡ t → withClamps k x y t ≡ Broken found
+      → BreaksFrom (recordThen (clampsUpTo clampsMost)) bytes 0 found
+  by-tail k x y e (Clamps n) f a = absurd (unsound k x y n found (sym a))
+  by-tail k x y e (NoClamps fault) f a =
+      let same : fault ≡ found = cc in
+      break-behind-record (clampsUpTo clampsMost) (upTo-some clampTag (lengthOk clampRule) clampsMost) bytes octets found k x y e
+      (clamps-break bytes octets found clampsMost (recordEnd k x y) 0 (layout-inside bytes k x y e) (f ∙ ap NoClamps same))
+
+  by-record : (l : Layout) → recordLayout bytes ≡ l → fromRecord bytes l ≡ Broken found → BreaksFrom (recordThen (clampsUpTo clampsMost)) bytes 0 found
+  by-record (Curve k x y) e a = by-tail k x y e (clampsBehind bytes (recordEnd k x y)) refl a
+  by-record (NoCurve fault) e a =
+      let same : fault ≡ found = cc in
+      record-breaks (clampsUpTo clampsMost) (upTo-some clampTag (lengthOk clampRule) clampsMost) bytes octets found (e ∙ ap NoCurve same)
+
+  -- bytes that are judged broken have their fault there
+  pub job-fault : jobLayout bytes ≡ Broken found → Fault jobs bytes (found .number) (found .place)
+  unfolding jobLayout
+  job-fault e = fault-same job-kind bytes (breaks-fault (by-record (recordLayout bytes) refl e))
+
+-- nothing can stand behind the last clamp
+longer : (front : List ℕ) → FullJob form1 front → (b : ℕ) (rest : List ℕ) → IsJob form1 (front ++ b ∷ rest) → ⊥
+unfolding jobBytes
+longer front full b rest v =
+    let w = full .job in
+    let joined : recordBytes form1 (w .m) (w .c) ++ (clampFields (w .cs) ++ b ∷ rest) ≡ recordBytes form1 (v .m) (v .c) ++ clampFields (v .cs) =
+    sym (append-assoc (recordBytes form1 (w .m) (w .c)) (clampFields (w .cs)) (b ∷ rest)) ∙ ap (λ (l : List ℕ). l ++ b ∷ rest) (sym (w .same)) ∙ v .same in
+    let same = form1-injective (w .m) (w .c) (clampFields (w .cs) ++ b ∷ rest) (v .m) (v .c) (clampFields (v .cs)) (w .storable .curve) (v .storable .curve) joined in
+    omega (
+      arith,
+      ap length (same .behind),
+      length-append (clampFields (w .cs)) (b ∷ rest),
+      length-each clampField clampFieldBytes (λ _. refl) (w .cs),
+      length-each clampField clampFieldBytes (λ _. refl) (v .cs),
+      full .many,
+      v .storable .few,
+    )
+
+-- a job is whole fields
+job-whole : (bytes : List ℕ) → IsJob form1 bytes → WholeFields bytes
+job-whole bytes w =
+    fields-whole (Row clampTag (lengthOk clampRule) (length (w .cs))) (row-fields clampTag (lengthOk clampRule) (length (w .cs))) bytes
+    (job-fields (Row clampTag (lengthOk clampRule) (length (w .cs))) bytes w (clamps-row (w .cs)))
+
+-- a record, and a field for each clamp: no job is longer than the longest
+pub job-most : (bytes : List ℕ) → IsJob form1 bytes → length bytes ≤ jobMost
+unfolding jobBytes
+job-most bytes w =
+    let recorded : List ℕ = recordBytes form1 (w .m) (w .c) in
+    let size : length (clampFields (w .cs)) ≡ clampFieldBytes * length (w .cs) = length-each clampField clampFieldBytes (λ _. refl) (w .cs) in
+    omega (arith, ap length (w .same), length-append recorded (clampFields (w .cs)), record-most (w .m) (w .c) (w .storable .curve), w .storable .few)
+
+-- nor does its fault lie further on
+pub job-fault-most : (bytes : List ℕ) {n p : ℕ} → Fault jobs bytes n p → p ≤ jobMost
+job-fault-most bytes fault = fault-most jobs jobMost job-most job-whole bytes fault
+
+-- so one byte more than the longest job has is enough to tell it
+pub job-fault-kept : JobFaultKept
+job-fault-kept bytes number place more fault = fault-kept jobs jobMost job-most job-whole bytes (jobMost + 1) (omega arith) (omega arith) fault
+
+pub jobs-told : FaultsTold jobs
+jobs-told =
+    record {
+      told = λ bytes octets. by bytes octets (jobLayout bytes) refl;
+      never = λ bytes number place fault. file-no-fault jobs bytes fault;
+      one = λ bytes number place n p fault found. one-fault jobs bytes fault found;
+      over = λ bytes at inside full.
+          left-over-there jobs bytes at inside full (full .job) (job-whole (take at bytes) (full .job)) (longer (take at bytes) full);
+    }
+  where
+    by : (bytes : List ℕ) → Octets bytes → (l : JobLayout) → jobLayout bytes ≡ l → IsJob form1 bytes ⊎ ((number : ℕ) × (place : ℕ) × Fault jobs bytes number place)
+    by bytes octets (Sound k x y n) e = inl (job-of-sound bytes octets k x y n e)
+    by bytes octets (Broken found) e = inr (found .number, found .place, job-fault bytes octets found e)
