@@ -1,7 +1,6 @@
 -- Closed cases of the leftmost fault of a lone record, worked by hand, and each with the number and the place that reading tells.
-use mathlib.Core.List.{List, [], _∷_, _++_}
+use mathlib.Core.List.{[], _∷_, _++_}
 use mathlib.Core.Path.{_≡_, refl}
-use Prim.Native.Nat.{ℕ}
 use Rattle.format.proofs.Controls.{bytesA}
 use Rattle.fault.specs.Fault.{Fault}
 use Rattle.fault.specs.Kinds.{loneRecords}

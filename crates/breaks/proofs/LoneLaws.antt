@@ -9,6 +9,7 @@ use lib.Dec.{leb}
 use lib.ListN.{length, take, drop}
 use lib.Seq.{drop-cons}
 use borrow.Author.Tests.{leb-false}
+use Rattle.refusal.specs.Numbers.{leftOverRefused}
 use Rattle.fields.specs.Bytes.{Octets}
 use Rattle.format.specs.Format.{form1, recordBytes, IsRecord}
 use Rattle.format.specs.RecordPlaces.{recordEnd}
@@ -88,7 +89,7 @@ module _ (bytes : List ℕ) (octets : Octets bytes) (found : Break) where
       let more : drop end bytes ≡ _ = drop-cons bytes end 0 (leb-false (length bytes) end t) in
       break-behind-record nothing (upTo-some (yRule .tag) (lengthOk yRule) 0) bytes octets found k x y e
       (subst (BreaksFrom nothing bytes end) isFound
-      (record { place = 0; there = omega arith; fault = subst (λ (l : List ℕ). Fault nothing l 21 0) (sym more) (fault-left-over (yRule .tag) (lengthOk yRule) _ _) }))
+      (record { place = 0; there = omega arith; fault = subst (λ (l : List ℕ). Fault nothing l leftOverRefused 0) (sym more) (fault-left-over (yRule .tag) (lengthOk yRule) _ _) }))
 
   by-layout : (l : Layout) → recordLayout bytes ≡ l → alone bytes l ≡ Unsound found → BreaksFrom (recordThen nothing) bytes 0 found
   by-layout (Sound k x y) e a = behind-sound k x y e (leb (length bytes) (recordEnd k x y)) refl a

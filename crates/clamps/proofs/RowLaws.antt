@@ -9,6 +9,7 @@ use lib.ListN.{length, getD, drop}
 use lib.Seq.{drop-cons, take-all}
 use mir.Facts.{sfits-toZ, sfits-lit}
 use borrow.Author.Tests.{leb-false, eqb-false}
+use Rattle.refusal.specs.Numbers.{leftOverRefused}
 use Rattle.grid.specs.Limits.{clampBytes}
 use Rattle.fields.specs.Bytes.{fieldBytes, coordinateBytes, Octets}
 use Rattle.fields.specs.Places.{i32At}
@@ -109,7 +110,7 @@ module _ (bytes : List ℕ) (octets : Octets bytes) (found : Break) where
       (record {
         place = 0;
         there = omega arith;
-        fault = subst (λ (l : List ℕ). Fault (clampsUpTo 0) l 21 0) (sym more) (fault-left-over clampTag (lengthOk clampRule) (getD bytes at 0) (drop (suc at) bytes));
+        fault = subst (λ (l : List ℕ). Fault (clampsUpTo 0) l leftOverRefused 0) (sym more) (fault-left-over clampTag (lengthOk clampRule) (getD bytes at 0) (drop (suc at) bytes));
       })
 
   by-field : (left at : ℕ) (next : Tail) → at < length bytes → (at + clampFieldBytes ≤ length bytes → next ≡ Broken found → BreaksFrom (clampsUpTo left) bytes (at + clampFieldBytes) found)
