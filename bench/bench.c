@@ -1,7 +1,8 @@
 /*
  * The proved library against the same calls written plainly in C, in one process on the same inputs. Both must give the same numbers, lists and
- * places, on broken records too; then each is timed, the two in turn, and the least time of all rounds counts (2,000, or as many as two seconds
- * hold). Prints nanoseconds a call, the ratio, and how the library's time grows with the number of points.
+ * places, on broken records and jobs too; then each is timed, the two in turn, and the least time of all rounds counts (2,000, or as many as two
+ * seconds hold). Prints nanoseconds a call, the ratio, and how the library's time grows with the number of points; then what it takes to feed the
+ * bytes of the longest job in few bursts and in many.
  * Build and run: bench/run.sh
  */
 #include <stddef.h>
@@ -13,12 +14,22 @@
 #include "plain.h"
 #include "tsaghnobir.h"
 
-enum { ROUNDS = 2000, DEGREE = 3, STEP = 6, PARAMETERS = 16, SIZES = 4 };
+enum { ROUNDS = 2000, DEGREE = 3, STEP = 6, PARAMETERS = 16, SIZES = 4, CLAMPS = 8, SPLITS = 6 };
 
-enum call { CHECK, POINT, CARRYING, SPANS, INSERT, JOIN, WRITE, READ, COMPACT, CALLS };
+enum call { CHECK, POINT, CARRYING, SPANS, INSERT, JOIN, WRITE, READ, COMPACT, FEED, CALLS, BURSTS };
 
-static const char *const names[CALLS] = {"check", "point", "carrying", "spans", "insert", "join", "write", "read", "compact"};
+static const char *const names[CALLS] = {"check", "point", "carrying", "spans", "insert", "join", "write", "read", "compact", "feed"};
 static const size_t sizes[SIZES] = {4, 64, 256, 1024};
+
+/* How many bursts, and of how many bytes; the last may be shorter. */
+struct split {
+    size_t bursts, size;
+};
+
+enum { ONE_BURST, OF_64, OF_16, OF_ONE, HALF_OF_ONE, EMPTY };
+
+static const struct split splits[SPLITS] = {
+    {1, TSB_JOB_MOST}, {TSB_JOB_MOST / 64 + 1, 64}, {TSB_JOB_MOST / 16 + 1, 16}, {TSB_JOB_MOST, 1}, {TSB_JOB_MOST / 2, 1}, {TSB_JOB_MOST, 0}};
 
 struct input {
     size_t points, inserted_points, spline_points, length;
@@ -30,7 +41,9 @@ struct input {
     int32_t px[TSB_SPLINE_POINTS_MOST], py[TSB_SPLINE_POINTS_MOST];
     int32_t tx[TSB_SPLINE_POINTS_MOST], ty[TSB_SPLINE_POINTS_MOST];
     uint32_t ts[PARAMETERS], v;
-    uint8_t bytes[TSB_RECORD_MOST];
+    size_t job_length, work_length, received;
+    struct split split;
+    uint8_t bytes[TSB_JOB_MOST + 1];
 };
 
 struct output {
@@ -40,6 +53,9 @@ struct output {
     uint16_t knots[TSB_KNOTS_MOST], lows[TSB_POINTS_MOST], highs[TSB_POINTS_MOST];
     int32_t xs[TSB_POINTS_MOST], ys[TSB_POINTS_MOST];
     uint8_t bytes[TSB_RECORD_MOST];
+    size_t clamp_count, received;
+    int32_t clamps[4 * TSB_CLAMPS_MOST];
+    uint8_t work[TSB_WORK_MOST];
 };
 
 /* nanoseconds that one measurement may take */
@@ -55,7 +71,31 @@ static struct output by_library, by_plain;
 #define SPLINE \
     in.params, in.spline_points, in.px, in.spline_points, in.py, in.spline_points, in.tx, in.spline_points, in.ty, in.spline_points
 #define PLACES out->knots, TSB_KNOTS_MOST, out->xs, TSB_POINTS_MOST, out->ys, TSB_POINTS_MOST
+#define JOB_PLACES PLACES, out->clamps, 4 * TSB_CLAMPS_MOST, &out->degree, &out->count, &out->clamp_count, &out->place
 #define CLAMP -40000, 40000, -200000, 200000
+
+/* Functions that feed a job in one burst and tell its end, and that feed the longest in bursts, for each side. */
+#define FEEDING(side)                                                                                                       \
+    static uint32_t feed_##side(struct output *out)                                                                         \
+    {                                                                                                                       \
+        uint32_t refusal = side##_feed(in.bytes, in.job_length, out->work, in.work_length, &out->received);                 \
+        return refusal | side##_feed_end(out->work, in.work_length, JOB_PLACES, &out->received);                            \
+    }                                                                                                                       \
+    static uint32_t bursts_##side(struct output *out)                                                                       \
+    {                                                                                                                       \
+        uint32_t refusal = 0;                                                                                               \
+        size_t at = 0;                                                                                                      \
+        out->received = in.received;                                                                                        \
+        for (size_t k = 0; k < in.split.bursts; k++) {                                                                      \
+            size_t count = TSB_JOB_MOST - at < in.split.size ? TSB_JOB_MOST - at : in.split.size;                           \
+            refusal |= side##_feed(in.bytes + at, count, out->work, in.work_length, &out->received);                        \
+            at += count;                                                                                                    \
+        }                                                                                                                   \
+        return refusal;                                                                                                     \
+    }
+
+FEEDING(tsb)
+FEEDING(plain)
 
 /* A function that makes one call `times` times, for each side. */
 #define REPEAT(side)                                                                                                        \
@@ -73,6 +113,8 @@ static struct output by_library, by_plain;
             case WRITE: refusal |= side##_write_record(GIVEN, out->bytes, TSB_RECORD_MOST, &out->count); break;             \
             case READ: refusal |= side##_read_record(in.bytes, in.length, PLACES, &out->degree, &out->count, &out->place); break; \
             case COMPACT: refusal |= side##_compact(SLACK, PLACES, &out->count, &out->place); break;                        \
+            case FEED: refusal |= feed_##side(out); break;                                                                  \
+            case BURSTS: refusal |= bursts_##side(out); break;                                                              \
             case CALLS: break;                                                                                              \
             }                                                                                                               \
         out->refusal = refusal;                                                                                             \
@@ -103,6 +145,21 @@ static void fill_knots(uint16_t *knots, size_t points)
     }
 }
 
+/* Clamps behind the record: a job. */
+static void put_clamps(size_t count)
+{
+    uint8_t *at = in.bytes + in.length;
+    for (size_t k = 0; k < count; k++) {
+        int32_t side = 1000 * (int32_t)k, sides[] = {-side, side, side, 2 * side};
+        *at++ = 5;
+        *at++ = 16;
+        *at++ = 0;
+        for (size_t b = 0; b < 16; b++)
+            *at++ = (uint8_t)((uint32_t)sides[b / 4] >> (8 * (b % 4)));
+    }
+    in.job_length = in.length + 19 * count;
+}
+
 static void fill_input(size_t points)
 {
     in.points = points;
@@ -131,14 +188,24 @@ static void fill_input(size_t points)
         in.ts[k] = STEP * spans * k / (PARAMETERS - 1);
     in.v = STEP * (spans / 2) + 2;
     plain_write_record(GIVEN, in.bytes, TSB_RECORD_MOST, &in.length);
+    put_clamps(CLAMPS);
+    in.work_length = TSB_WORK_MOST;
+}
+
+/* Nothing in it, but for the bytes that count as received before the call. */
+static void prepare(struct output *out)
+{
+    memset(out, 85, sizeof *out);
+    memcpy(out->work, in.bytes, in.received < TSB_WORK_MOST ? in.received : TSB_WORK_MOST);
+    out->received = in.received;
 }
 
 /* The two sides agree on every parameter, in every place and every entry, used or not. */
 static int agree(enum call call)
 {
     for (size_t times = 1; times <= PARAMETERS; times++) {
-        memset(&by_library, 85, sizeof by_library);
-        memset(&by_plain, 85, sizeof by_plain);
+        prepare(&by_library);
+        prepare(&by_plain);
         repeat_tsb(call, times, &by_library);
         repeat_plain(call, times, &by_plain);
         if (by_library.refusal != 0 || memcmp(&by_library, &by_plain, sizeof by_library) != 0)
@@ -147,32 +214,51 @@ static int agree(enum call call)
     return 1;
 }
 
-/* Whether the two sides tell the same of the first bytes of the record, and leave everything else alike. */
-static int agree_on_first(size_t length)
+/* Whether the two sides tell the same of one call, refused or not, and leave everything else alike. */
+static int agree_on_one(enum call call)
 {
-    in.length = length;
-    memset(&by_library, 85, sizeof by_library);
-    memset(&by_plain, 85, sizeof by_plain);
-    repeat_tsb(READ, 1, &by_library);
-    repeat_plain(READ, 1, &by_plain);
+    prepare(&by_library);
+    prepare(&by_plain);
+    repeat_tsb(call, 1, &by_library);
+    repeat_plain(call, 1, &by_plain);
     return memcmp(&by_library, &by_plain, sizeof by_library) == 0;
 }
 
-/* The record cut at every byte, with every byte changed in four ways, and with a byte behind it: number and place of the fault. */
-static int agree_on_broken(void)
+/* The bytes cut everywhere, with every byte changed in four ways, and with a byte behind them: number and place of the fault. */
+static int agree_on_broken(enum call call, size_t *length)
 {
     static const uint8_t masks[] = {1, 2, 128, 255};
-    size_t length = in.length;
-    int same = agree_on_first(length + 1);
-    for (size_t at = 0; at < length; at++) {
-        same &= agree_on_first(at);
+    size_t whole = *length;
+    int same = 1;
+    for (*length = 0; *length <= whole + 1; ++*length)
+        same &= agree_on_one(call);
+    *length = whole;
+    for (size_t at = 0; at < whole; at++)
         for (size_t k = 0; k < sizeof masks; k++) {
             in.bytes[at] ^= masks[k];
-            same &= agree_on_first(length);
+            same &= agree_on_one(call);
             in.bytes[at] ^= masks[k];
         }
-    }
-    in.length = length;
+    return same;
+}
+
+/* With its end and without, behind what was received before, up to the end of the list and beyond, and with a list that is too short. */
+static int agree_on_long(void)
+{
+    static const size_t lengths[] = {0, 1, TSB_JOB_MOST, TSB_JOB_MOST + 1};
+    static const size_t counts[] = {0, 1, TSB_JOB_MOST - 1, TSB_JOB_MOST, TSB_JOB_MOST + 1, TSB_JOB_MOST + 2, (size_t)-1};
+    int same = 1;
+    for (size_t k = 0; k < sizeof counts / sizeof counts[0]; k++)
+        for (size_t j = 0; j < sizeof lengths / sizeof lengths[0]; j++) {
+            in.received = counts[k];
+            in.job_length = lengths[j];
+            in.split = (struct split){1, lengths[j]};
+            same &= agree_on_one(FEED) & agree_on_one(BURSTS);
+            in.work_length--;
+            same &= agree_on_one(FEED) & agree_on_one(BURSTS);
+            in.work_length++;
+        }
+    in.received = 0;
     return same;
 }
 
@@ -216,14 +302,45 @@ static void measure(enum call call, double *library, double *plain)
     *plain /= (double)times;
 }
 
+/* Bursts of one byte: against half as many, twice, and against the one burst, twice, with as many empty ones. */
+static void print_growth(const char *side, const double *times)
+{
+    double halves = 2 * times[HALF_OF_ONE], copy_and_calls = 2 * times[ONE_BURST] + times[EMPTY];
+    printf("%-15sx%.2f of twice half of them, x%.2f of twice the one burst and the empty ones\n", side, times[OF_ONE] / halves, times[OF_ONE] / copy_and_calls);
+}
+
+/* Feeding in bursts; 0 where the two sides differ. */
+static int print_bursts(void)
+{
+    double library[SPLITS], plain[SPLITS];
+
+    put_clamps(TSB_CLAMPS_MOST);
+    if (!agree_on_long())
+        return 0;
+    printf("\nfeeding without the end: nanoseconds, proved library / plain C (ratio), and nanoseconds a burst\n bursts   bytes\n");
+    for (size_t k = 0; k < SPLITS; k++) {
+        in.split = splits[k];
+        if (!agree(BURSTS))
+            return 0;
+        measure(BURSTS, &library[k], &plain[k]);
+        double bursts = (double)in.split.bursts;
+        printf("%7u%8u%11.1f /%8.1f (%4.2f)", (unsigned)in.split.bursts, (unsigned)in.split.size, library[k], plain[k], library[k] / plain[k]);
+        printf("%11.2f /%8.2f\n", library[k] / bursts, plain[k] / bursts);
+    }
+    printf("%u bursts of one byte\n", (unsigned)TSB_JOB_MOST);
+    print_growth("proved library", library);
+    print_growth("plain C", plain);
+    return 1;
+}
+
 int main(void)
 {
     static double library[CALLS][SIZES], plain[CALLS][SIZES];
 
     for (size_t s = 0; s < SIZES; s++) {
         fill_input(sizes[s]);
-        if (s == 0 && !agree_on_broken()) {
-            printf("the two sides differ on a broken record\n");
+        if (s == 0 && (!agree_on_broken(READ, &in.length) || !agree_on_broken(FEED, &in.job_length))) {
+            printf("the two sides differ on a broken record or job\n");
             return 1;
         }
         for (int call = 0; call < CALLS; call++) {
@@ -243,6 +360,10 @@ int main(void)
         for (size_t s = 0; s < SIZES; s++)
             printf("%9.1f /%8.1f (%4.2f)", library[call][s], plain[call][s], library[call][s] / plain[call][s]);
         printf("   x%.1f x%.1f\n", library[call][2] / library[call][1], library[call][3] / library[call][2]);
+    }
+    if (!print_bursts()) {
+        printf("feeding in bursts: the two sides differ\n");
+        return 1;
     }
     return 0;
 }

@@ -9,6 +9,9 @@
     uint32_t degree, const uint16_t *knots, size_t knots_len, const int32_t *xs, size_t xs_len, const int32_t *ys, size_t ys_len
 #define LISTS \
     uint16_t *restrict out_knots, size_t out_knots_len, int32_t *restrict out_xs, size_t out_xs_len, int32_t *restrict out_ys, size_t out_ys_len
+#define JOB                                                                                                  \
+    LISTS, int32_t *restrict clamps, size_t clamps_len, uint32_t *restrict degree, size_t *restrict points, \
+        size_t *restrict clamp_count, size_t *restrict place
 
 uint32_t plain_check(CURVE);
 uint32_t plain_point(CURVE, uint32_t t, double *restrict x, double *restrict y);
@@ -24,5 +27,9 @@ uint32_t plain_spans(
 uint32_t plain_write_record(CURVE, uint8_t *restrict out, size_t out_len, size_t *restrict length);
 uint32_t plain_read_record(
     const uint8_t *bytes, size_t bytes_len, LISTS, uint32_t *restrict degree, size_t *restrict points, size_t *restrict place);
+uint32_t plain_read_job(const uint8_t *bytes, size_t bytes_len, JOB);
+uint32_t plain_feed(
+    const uint8_t *burst, size_t burst_len, uint8_t *restrict work, size_t work_len, size_t *restrict received);
+uint32_t plain_feed_end(const uint8_t *work, size_t work_len, JOB, size_t *restrict received);
 
 #endif

@@ -22,7 +22,8 @@
  * THE RESULT of every function is a refusal number: 0 (TSB_OK) if the call was carried out, else the number
  * of the reason, one of the TSB_.. values below. Where several reasons apply, the call names the one that it
  * judges first; the order stands with each call. A refused call has changed nothing that was lent to it, with
- * one exception: a reader that is given broken bytes tells where they break, through the pointer `place`.
+ * two exceptions: a reader that is given broken bytes tells where they break, through the pointer `place`; and
+ * tsb_feed_end is done with the bytes that it refuses and sets their count to 0, but for a work list that is too short.
  * After success the first entries of each result list hold the result, the entries behind are as before,
  * and the single numbers lent by a pointer hold what is said with the call.
  *
@@ -41,8 +42,7 @@
  * Places count from 0. So bytes that end between the two of a length are TSB_ENDED, whatever the first of them
  * is; a wrong length whose contents run out as well is TSB_LENGTH; and behind a job's record, or behind a clamp
  * before the 64th, a byte other than 5 is TSB_TAG. `*place` is written by these four refusals and by nothing
- * else: on success and on every other refusal it is as before. It is the one thing lent to any call here that a
- * refusal ever alters.
+ * else: on success and on every other refusal it is as before.
  *
  * WHAT THE CALLER OWES, because no proof can see it from inside:
  *   - a pointer is valid for as many entries as its length says and aligned for its type; a pointer to a
@@ -64,8 +64,10 @@
  * Version 2: tsb_read_record and tsb_read_job have a last parameter `place` and split what was 16 for all broken
  * bytes into 16, 19, 20 and 21. A caller of version 1 lends a size_t, has no more TSB_BYTES (16 is TSB_ENDED) and
  * treats all four as it treated 16; which bytes are read, and what is read from them, has not changed.
+ * Version 3: tsb_feed and tsb_feed_end, for a job that comes in bursts. Nothing else changed: a caller of version 2
+ * has nothing to do.
  */
-#define TSB_API_VERSION 2
+#define TSB_API_VERSION 3
 
 /* The limits, and places that are always enough for a result. */
 #define TSB_POINTS_MOST 1024       /* points of a curve */
@@ -76,6 +78,7 @@
 #define TSB_RECORD_MOST 10261      /* bytes of a record */
 #define TSB_JOB_MOST 11477         /* bytes of a job */
 #define TSB_CLAMPS_MOST 64         /* clamps of a job */
+#define TSB_WORK_MOST TSB_JOB_MOST /* bytes of the longest job: places that tsb_feed asks of a work list, or more */
 
 /* The refusal numbers. */
 enum tsb_refusal {
@@ -94,7 +97,7 @@ enum tsb_refusal {
     TSB_NOT_INNER = 12,     /* removal: the value is no knot strictly between the ends */
     TSB_NOT_REMOVABLE = 13, /* removal: no whole points within range give the old curve with the value inserted again */
     TSB_RECTANGLE = 14,     /* a rectangle's low side lies above its high side, or a side beyond +-262144 */
-    TSB_ROOM = 15,          /* a result list has too few places */
+    TSB_ROOM = 15,          /* a result list has too few places, or a work list fewer than TSB_WORK_MOST */
     TSB_ENDED = 16,         /* reading: the bytes end early */
     TSB_SPLINE_POINTS = 17, /* joining: one spline point or none, more than 342, five lists that are not equally long, a
                                parameter above 16383 or one that is not above the parameter before it */
@@ -264,6 +267,51 @@ uint32_t tsb_read_job(
     int32_t *TSB_RESTRICT clamps, size_t clamps_len,
     uint32_t *TSB_RESTRICT degree, size_t *TSB_RESTRICT points, size_t *TSB_RESTRICT clamp_count,
     size_t *TSB_RESTRICT place);
+
+/*
+ * A job that comes in bursts, over a serial line say: feed each burst as it comes, and tell the end. All bursts
+ * joined are then read as tsb_read_job reads them, however they were split; nothing is judged before that.
+ *
+ *   static uint8_t work[TSB_WORK_MOST], burst[64];
+ *   size_t received = 0;
+ *   int open = 1;
+ *   while (open) {
+ *       open = line_is_open();
+ *       size_t count = receive(burst, sizeof burst);
+ *       tsb_feed(burst, count, work, TSB_WORK_MOST, &received);
+ *   }
+ *   uint32_t refusal = tsb_feed_end(work, TSB_WORK_MOST, lists.., &degree, &points, &clamp_count, &place, &received);
+ *
+ * `*received` is all that is kept between the calls, beside the work list: 0 before the first burst, and 0 again
+ * after an end, so that the next job may follow on the same list. The caller hands both on as they are.
+ *
+ * tsb_feed keeps the burst in the work list behind the bytes received so far, as far as it fits, and adds its length
+ * to *received. An empty burst changes nothing. Input longer than the work list is no refusal yet: what does not fit
+ * is dropped, and *received stops at work_len + 1, or where it was if that is higher, so it never wraps. All other
+ * places of the work list are as before.
+ * Refused by 15 where the work list has fewer than TSB_WORK_MOST places; then nothing has changed.
+ */
+uint32_t tsb_feed(
+    const uint8_t *burst, size_t burst_len,
+    uint8_t *TSB_RESTRICT work, size_t work_len,
+    size_t *TSB_RESTRICT received);
+
+/*
+ * The end of such a job: gives what tsb_read_job gives for all bytes fed since *received was 0, number, lists, single
+ * numbers and place, and sets *received to 0, whether the job was refused or not. Input longer than the longest job is
+ * refused as the whole of it would be: its first TSB_JOB_MOST bytes and that there are more tell the fault.
+ * Refused at once by 15 where the work list has fewer than TSB_WORK_MOST places; this alone leaves *received as it is.
+ * Then as by tsb_read_job. Any value of *received is taken: one beyond work_len says that more bytes came than the
+ * list holds.
+ */
+uint32_t tsb_feed_end(
+    const uint8_t *work, size_t work_len,
+    uint16_t *TSB_RESTRICT out_knots, size_t out_knots_len,
+    int32_t *TSB_RESTRICT out_xs, size_t out_xs_len,
+    int32_t *TSB_RESTRICT out_ys, size_t out_ys_len,
+    int32_t *TSB_RESTRICT clamps, size_t clamps_len,
+    uint32_t *TSB_RESTRICT degree, size_t *TSB_RESTRICT points, size_t *TSB_RESTRICT clamp_count,
+    size_t *TSB_RESTRICT place, size_t *TSB_RESTRICT received);
 
 #ifdef __cplusplus
 }

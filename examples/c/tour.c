@@ -1,7 +1,7 @@
 /*
  * A tour of the library from C: the point on a curve, a knot inserted and removed, all knots removed that can go,
  * spline points joined, the spans that a clamp asks for, a record written and read back, records and jobs that are
- * broken, with the place where they break, and some refusals.
+ * broken, with the place where they break, jobs that come in bursts, and some refusals.
  * Build and run: examples/c/build.sh run
  */
 #include <stddef.h>
@@ -153,20 +153,62 @@ static void print_written_and_read(const struct curve *c)
     print_record("with degree 4", length);
 }
 
-/* Reads the first bytes as a job; where it is one, its first clamp is held against its curve. */
-static void print_job(const char *name, size_t length)
+static int32_t clamps[4 * TSB_CLAMPS_MOST];
+
+/* What reading a job of one clamp gave: the clamp is held against the curve. */
+static void print_read_job(uint32_t refusal, size_t count, size_t place)
 {
-    int32_t clamps[4 * TSB_CLAMPS_MOST];
-    size_t count, place = 0;
-    uint32_t refusal = tsb_read_job(
-        bytes, length, PLACES(result), clamps, 4 * TSB_CLAMPS_MOST, &result.degree, &result.points, &count, &place);
-    printf("%s:", name);
     if (refusal != TSB_OK) {
         print_unread(refusal, place);
         return;
     }
     printf(" %u clamp\n", (unsigned)count);
     print_spans(&result, clamps[0], clamps[1], clamps[2], clamps[3]);
+}
+
+static void print_job(const char *name, size_t length)
+{
+    size_t count = 0, place = 0;
+    uint32_t refusal = tsb_read_job(
+        bytes, length, PLACES(result), clamps, 4 * TSB_CLAMPS_MOST, &result.degree, &result.points, &count, &place);
+    printf("%s:", name);
+    print_read_job(refusal, count, place);
+}
+
+/* In place of a serial line: it brings the first bytes, and when it is asked the third time none has come. */
+struct line {
+    size_t at, length;
+    unsigned asked;
+};
+
+static size_t receive(struct line *line, uint8_t *burst, size_t most)
+{
+    size_t count = 0;
+    if (++line->asked != 3)
+        while (count < most && line->at < line->length)
+            burst[count++] = bytes[line->at++];
+    return count;
+}
+
+/* The same over the line. Work list and count go from call to call; each end sets the count to 0 for the next job. */
+static void print_fed(const char *name, size_t length)
+{
+    static uint8_t work[TSB_WORK_MOST], burst[32];
+    static size_t received = 0;
+    struct line line = {0, length, 0};
+    size_t count = 0, place = 0;
+    uint32_t refusal;
+
+    printf("%s fed by", name);
+    while (line.at < line.length) {
+        size_t came = receive(&line, burst, sizeof burst);
+        printf(" %u", (unsigned)came);
+        tsb_feed(burst, came, work, TSB_WORK_MOST, &received);
+    }
+    refusal = tsb_feed_end(
+        work, TSB_WORK_MOST, PLACES(result), clamps, 4 * TSB_CLAMPS_MOST, &result.degree, &result.points, &count, &place, &received);
+    printf(":");
+    print_read_job(refusal, count, place);
 }
 
 /* A curve's record with one clamp behind it: tag 5, length 16, and the four sides, low byte first. */
@@ -184,6 +226,13 @@ static void print_jobs(const struct curve *c)
     print_job("with a clamp of 12 bytes", length);
     bytes[record] = 6;
     print_job("with tag 6 in place of 5 besides", length);
+    bytes[record] = 5;
+    bytes[record + 1] = 16;
+    print_fed("job", length);
+    bytes[record + 1] = 12;
+    print_fed("with a clamp of 12 bytes", length);
+    bytes[record + 1] = 16;
+    print_fed("next job", length);
 }
 
 int main(void)

@@ -57,11 +57,13 @@ if numbers != named:
     faults.append(f"refusal numbers: {sorted(numbers.items() ^ named.items())}")
 library = limits()
 defined = {name: int(value) for name, value in re.findall(r"^#define TSB_(\w+_MOST) +(\d+) *$", bare, re.M)}
+renamed = {name: other for name, other in re.findall(r"^#define TSB_(\w+_MOST) +TSB_(\w+_MOST) *$", bare, re.M)}
 for name, value in sorted(defined.items()):
     if library.get(name) != value:
         faults.append(f"TSB_{name}: {value} in the header, {library.get(name)} in the library")
-if len(defined) != bare.count("_MOST "):
-    faults.append("a limit of the header is no plain number")
+faults += [f"TSB_{name} is TSB_{other}, which is no limit of the header" for name, other in renamed.items() if other not in defined]
+if len(defined) + len(renamed) != len(re.findall(r"^#define TSB_\w+_MOST ", bare, re.M)):
+    faults.append("a limit of the header is no plain number and no other limit")
 if not exported or faults:
     sys.exit("the header and the exports differ:\n" + "\n".join(faults))
-print(f"the header has the {len(exported)} exports, the {len(named)} refusal numbers and {len(defined)} limits as they are")
+print(f"the header has the {len(exported)} exports, the {len(named)} refusal numbers and {len(defined) + len(renamed)} limits as they are")

@@ -1,5 +1,6 @@
 """The second program itself, held to the cases of the scope and of tests/worked.txt that are worked by hand, and to laws that any
-right program keeps: insertion keeps the curve, joining is the Hermite cubic, removal is what a search over polygons finds."""
+right program keeps: insertion keeps the curve, joining is the Hermite cubic, removal is what a search over polygons finds, feeding is reading what was
+joined."""
 
 import sys
 import unittest
@@ -13,17 +14,20 @@ sys.path.insert(0, str(Path(__file__).resolve().parent.parent))
 from harness.compare import difference
 from harness.shapes import EXPORTED, SHAPES, Reader
 from harness.worked import Unreadable, worked_cases
-from second_program import vectors
-from second_program.broken_cases import broken_jobs, broken_records
+from second_program import feeding, vectors
+from second_program.broken_cases import broken_jobs, broken_records, changed, fields_of, joined
 from second_program.clamp_cases import random_fraction
 from second_program.curve import Curve, basis, check, domain, exact_point, point_at, span_of
 from second_program.dice import Dice
 from second_program.expected import WIDE, WORKED_A, WORKED_B
+from second_program.fed_vectors import feed
+from second_program.feed_cases import enough_places, in_bursts
 from second_program.insert_cases import insertable
-from second_program.job_cases import job_of
+from second_program.job_cases import good_job, job_of
 from second_program.join_cases import spline_points
 from second_program.joining import join
 from second_program.knots import compact, insert_knot, polygon_with, remove_knot
+from second_program.long_feed_cases import longest_fields
 from second_program.random_curves import random_curve
 from second_program.record import Fault, clampcheck_text, read_job, read_record, record_of, take_job, take_lone_record
 from second_program.remove_cases import SMOOTH, smooth_joined
@@ -100,11 +104,13 @@ def by_second_program(case):
     reader = Reader(case.body)
     reader.number("u8")
     given = [reader.value(kind) for _, kind in SHAPES[case.call].arguments]
-    make, room = getattr(vectors, case.call), tuple(case.places)
+    make, room = feed if case.call == "feed" else getattr(vectors, case.call), tuple(case.places)
     if case.call == "join_through_points":
         return make(*given, room)
     if case.call in ("read_record", "read_job"):
         return make(bytes(given[0]), room, 0)
+    if case.call == "feed":
+        return make(given[0], bytes(given[1]), given[2], room, case.steps, 0)
     curve, rest = Curve(*given[:4]), given[4:]
     if case.call == "list_spans_met":
         rest = [tuple(rest)]
@@ -150,6 +156,34 @@ class WorkedFile(unittest.TestCase):
             (", y 3x_", ""),
             ("one\n", "curve A\n"),
             ("refused 9", "refused 9 at 3"),
+        ):
+            with self.subTest(wrong), self.assertRaises(Unreadable):
+                worked_cases(sound.replace(right, wrong))
+
+    def test_unreadable_feedings_are_told(self):
+        sound = "one\n    feed work 3, front 1, received 0, places 1 0 0 0;\n    burst 2 = received 0, refused 15;\n    end = received 0, refused 15, knots _, x, y, sides;\n    work 1 2x_\n"
+        self.assertEqual(len(worked_cases(sound)), 1)
+        for right, wrong in (
+            ("feed work 3, ", "feed "),
+            ("work 3", "work 4"),
+            ("received 0, places", "places"),
+            ("received 0, places", "received -1, places"),
+            (" 1 0 0 0;", " 1 0 0;"),
+            ("front 1", "back 1"),
+            ("burst 2", "burst 256"),
+            ("burst 2", "burst _"),
+            ("work 1 2x_", "work 256 2x_"),
+            ("burst 2", "bursts 2"),
+            ("burst 2 =", "burst 2"),
+            ("= received 0, refused 15;", "= refused 15;"),
+            ("refused 15;", "refused 16;"),
+            ("refused 15;", "refused 15, knots _;"),
+            ("end =", "end 1 ="),
+            ("knots _", "knots 2x_"),
+            (", sides;", ";"),
+            ("refused 15, knots", "refused 16, knots"),
+            ("1 2x_", "1 3x_"),
+            ("    work 1 2x_\n", ""),
         ):
             with self.subTest(wrong), self.assertRaises(Unreadable):
                 worked_cases(sound.replace(right, wrong))
@@ -238,6 +272,31 @@ class Laws(unittest.TestCase):
                 for at in range(0, len(data), 1 + len(data) // 20):
                     if fault_of(take, data[:at]) is None:
                         self.assertEqual(again(take(data[:at])), data[:at])
+
+    def test_feeding_is_reading_what_is_joined(self):
+        """However the bytes are split and however long the list is; a burst tells nothing."""
+        broken = [data for _, _, data in broken_jobs(self.dice)]
+        longest = joined(longest_fields(self.dice))
+        jobs = [job_of(*good_job(self.dice, 3)) for _ in range(40)] + broken[::9] + [longest[:-1], longest, longest + b"\0", longest + longest]
+        for data in jobs:
+            work, received = bytes(enough_places(self.dice)), 0
+            for burst in in_bursts(self.dice, data):
+                number, work, received = feeding.feed(work, received, burst)
+                self.assertEqual(number, 0)
+            self.assertEqual(feeding.feed_end(work, received, WIDE + (256,)), (*read_job(data, WIDE + (256,)), 0))
+            self.assertEqual(work[: len(data)], data[: len(work)])
+
+    def test_nothing_behind_the_longest_job_matters(self):
+        """So the end need not know what came when the list was full."""
+        fields = longest_fields(self.dice)
+        small = fields_of(WORKED_A, CLAMPS)
+        fronts = [joined(changed(fields, k, tag=9)) for k in (0, 3, 67)] + [joined(changed(fields, k, length=15)) for k in (0, 2, 67)]
+        fronts += [joined(fields), joined(fields[:-1] + small), joined(small + fields), joined(fields[:3]) + bytes(9000), joined(small[:4] + fields[4:])]
+        tails = [bytes([byte]) for byte in range(0, 256, 5)] + [joined(small), bytes(40)]
+        for front in (front.ljust(feeding.LONGEST_JOB, b"\5")[: feeding.LONGEST_JOB] for front in fronts):
+            told = {fault_of(take_job, front + tail) for tail in tails}
+            self.assertEqual(len(told), 1)
+            self.assertNotIn(told.pop(), (None, (16, len(front) + 1)))
 
     def test_removal_is_what_a_search_finds(self):
         reach, found = 8, 0

@@ -12,6 +12,7 @@ static size_t left;
 static int cut_short;
 static unsigned char answer[MOST_ANSWER];
 static size_t answered;
+static int too_large;
 
 void begin_case(const unsigned char *bytes, size_t length)
 {
@@ -45,6 +46,12 @@ uint32_t take_number(void)
     return b[0] | (uint32_t)b[1] << 8 | (uint32_t)b[2] << 16 | (uint32_t)b[3] << 24;
 }
 
+uint64_t take_large(void)
+{
+    uint64_t low = take_number();
+    return low | (uint64_t)take_number() << 32;
+}
+
 const unsigned char *take_entries(size_t width, size_t *count)
 {
     *count = take_number();
@@ -55,6 +62,11 @@ const unsigned char *take_entries(size_t width, size_t *count)
     return take(*count * width);
 }
 
+int case_goes_on(void)
+{
+    return !cut_short && left != 0;
+}
+
 int case_is_whole(void)
 {
     return !cut_short && left == 0;
@@ -63,6 +75,7 @@ int case_is_whole(void)
 void begin_answer(void)
 {
     answered = 0;
+    too_large = 0;
 }
 
 void put_entries(const void *entries, size_t count, size_t width)
@@ -79,6 +92,22 @@ void put_entries(const void *entries, size_t count, size_t width)
 void put_number(uint32_t number)
 {
     put_entries(&number, 1, sizeof number);
+}
+
+void put_large(uint64_t number)
+{
+    put_entries(&number, 1, sizeof number);
+}
+
+void put_count(size_t count)
+{
+    too_large |= count > UINT32_MAX;
+    put_number((uint32_t)count);
+}
+
+int counts_fit(void)
+{
+    return !too_large;
 }
 
 const unsigned char *answer_so_far(size_t *length)

@@ -4,6 +4,7 @@
 #include <stddef.h>
 
 #include "bytes.h"
+#include "feed.h"
 #include "lent.h"
 #include "tsaghnobir.h"
 
@@ -67,14 +68,6 @@ static void put_result(struct result r)
     put_entries(r.knots, r.knots_len, 2);
     put_entries(r.xs, r.xs_len, 4);
     put_entries(r.ys, r.ys_len, 4);
-}
-
-/* A count or a place has 8 bytes in memory and 4 in the answer. */
-static void put_count(size_t count)
-{
-    if (count > UINT32_MAX)
-        wrong = "a count or a place does not fit into 32 bits";
-    put_number((uint32_t)count);
 }
 
 int has_place(uint32_t refusal)
@@ -247,23 +240,31 @@ static uint32_t read_job(void)
     return refusal;
 }
 
-int call_export(unsigned char number, struct outcome *outcome)
+enum ending ending_of(uint32_t refusal)
+{
+    return refusal == TSB_OK ? DONE : has_place(refusal) ? REFUSED_AT : REFUSED;
+}
+
+int call_export(unsigned char number, size_t step, struct outcome *outcome)
 {
     wrong = NULL;
+    outcome->goes_on = 0;
     switch (number) {
-    case 1: outcome->refusal = check(); break;
-    case 2: outcome->refusal = point(); break;
-    case 3: outcome->refusal = carrying(); break;
-    case 4: outcome->refusal = insert_or_remove(0); break;
-    case 5: outcome->refusal = insert_or_remove(1); break;
-    case 6: outcome->refusal = compact(); break;
-    case 7: outcome->refusal = join(); break;
-    case 8: outcome->refusal = spans(); break;
-    case 9: outcome->refusal = write_record(); break;
-    case 10: outcome->refusal = read_record(); break;
-    case 11: outcome->refusal = read_job(); break;
+    case 1: outcome->ending = ending_of(check()); break;
+    case 2: outcome->ending = ending_of(point()); break;
+    case 3: outcome->ending = ending_of(carrying()); break;
+    case 4: outcome->ending = ending_of(insert_or_remove(0)); break;
+    case 5: outcome->ending = ending_of(insert_or_remove(1)); break;
+    case 6: outcome->ending = ending_of(compact()); break;
+    case 7: outcome->ending = ending_of(join()); break;
+    case 8: outcome->ending = ending_of(spans()); break;
+    case 9: outcome->ending = ending_of(write_record()); break;
+    case 10: outcome->ending = ending_of(read_record()); break;
+    case 11: outcome->ending = ending_of(read_job()); break;
+    /* 12 is the text of clampcheck, which has no export */
+    case 13: outcome->goes_on = feed_step(step, &outcome->ending); break;
     default: return 0;
     }
-    outcome->wrong = wrong;
+    outcome->wrong = counts_fit() ? wrong : "a count or a place does not fit into 32 bits";
     return 1;
 }

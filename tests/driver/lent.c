@@ -11,13 +11,14 @@
 #define ARENA (4u << 20)
 #define MOST_LENT 16
 
-enum kind { INPUT, RESULT, NUMBER, PLACE };
+enum kind { INPUT, PART, RESULT, NUMBER, PLACE };
 
 struct lent {
     const char *name;
     enum kind kind;
     size_t at, size;
-    const unsigned char *before; /* what an input held */
+    const unsigned char *before; /* what an input or a part held */
+    size_t from, until;          /* where a part may be written */
 };
 
 static unsigned char *arena;
@@ -83,6 +84,7 @@ static struct lent *lend(const char *name, enum kind kind, size_t count, size_t 
     list->at = used;
     list->size = count * width;
     list->before = NULL;
+    list->from = list->until = 0;
     used = guard_end(list);
     fill_guard(list->at + list->size, used);
     return list;
@@ -114,13 +116,39 @@ const void *lend_input(const char *name, const void *entries, size_t count, size
     return place_of(list);
 }
 
+void *lend_part(const char *name, const void *entries, size_t count, size_t width, size_t from, size_t until)
+{
+    struct lent *list = lend(name, PART, count, width);
+    list->before = entries;
+    list->from = from * width;
+    list->until = until * width;
+    if (list->size != 0)
+        memcpy(arena + list->at, entries, list->size);
+    return place_of(list);
+}
+
+void *lend_kept(const char *name, const void *entries, size_t count, size_t width)
+{
+    return lend_part(name, entries, count, width, 0, 0);
+}
+
+void *lend_open(const char *name, const void *entries, size_t count, size_t width)
+{
+    return lend_part(name, entries, count, width, 0, count);
+}
+
+void fill_result(void *entries, size_t count, size_t width)
+{
+    for (size_t k = 0; k < count; k++) {
+        uint32_t entry = (uint32_t)(width == 1 ? 5 * k + 3 : width == 2 ? 7 * k + 13 : 9 * k - 5);
+        memcpy((unsigned char *)entries + k * width, &entry, width); /* the low bytes come first, here as in the files */
+    }
+}
+
 void *lend_result(const char *name, size_t count, size_t width)
 {
     struct lent *list = lend(name, RESULT, count, width);
-    for (size_t k = 0; k < count; k++) {
-        uint32_t entry = (uint32_t)(width == 1 ? 5 * k + 3 : width == 2 ? 7 * k + 13 : 9 * k - 5);
-        memcpy(arena + list->at + k * width, &entry, width); /* the low bytes come first, here as in the files */
-    }
+    fill_result(arena + list->at, count, width);
     return place_of(list);
 }
 
@@ -150,6 +178,11 @@ static int number_holds(const struct lent *list)
     return 1;
 }
 
+static int is_as_before(const struct lent *list, size_t from, size_t until)
+{
+    return from == until || memcmp(arena + list->at + from, list->before + from, until - from) == 0;
+}
+
 const char *what_is_wrong(enum ending ending, const char **name)
 {
     *name = "the first list";
@@ -160,8 +193,10 @@ const char *what_is_wrong(enum ending ending, const char **name)
         *name = list->name;
         if (!guard_holds(list->at + list->size, guard_end(list)))
             return "was written behind its last entry, or what was lent next before its first";
-        if (list->kind == INPUT && list->size != 0 && memcmp(arena + list->at, list->before, list->size) != 0)
+        if (list->kind == INPUT && !is_as_before(list, 0, list->size))
             return "is an input and was changed";
+        if (list->kind == PART && !(is_as_before(list, 0, list->from) && is_as_before(list, list->until, list->size)))
+            return "was changed where the call may not write";
         if (list->kind == NUMBER && ending != DONE && !number_holds(list))
             return "was changed by a call that was refused";
         if (list->kind == PLACE && ending != REFUSED_AT && !number_holds(list))

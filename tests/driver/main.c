@@ -3,7 +3,7 @@
  *
  *   driver first|second    reads the cases on standard input, writes their answers to standard output and tells faults on standard error;
  *                          first and second are two ways to fill the guards round every list
- *   driver spoiled         the same, but after each call a byte behind one of its lists is spoiled: every case must be told
+ *   driver spoiled         the same, but after each call a byte behind one of its lists is spoiled: every call must be told
  *   driver selftest        tries the guards themselves
  *
  * Cases and answers stand as tests/second_program/vectors.py says; faults are told by the number of the case, from 1 on. Exit status: 0 all
@@ -18,7 +18,6 @@
 #include "calls.h"
 #include "lent.h"
 #include "selftest.h"
-#include "tsaghnobir.h"
 
 #define MOST_CASE (4u << 20)
 
@@ -32,34 +31,39 @@ static void tell(const char *name, const char *what)
     faults = 1;
 }
 
-static enum ending ending_of(uint32_t refusal)
+/* Tells what is wrong after a call. */
+static void judge(const struct outcome *outcome)
 {
-    return refusal == TSB_OK ? DONE : has_place(refusal) ? REFUSED_AT : REFUSED;
+    const char *name, *what = what_is_wrong(outcome->ending, &name);
+    if (what != NULL)
+        tell(name, what);
+    if (outcome->wrong != NULL)
+        tell("the answer:", outcome->wrong);
 }
 
-/* Runs the case in the first bytes of `body`. */
+/* Runs the case in the first bytes of `body`, a call or several. */
 static int run_case(size_t length, enum filling filling, int spoiled)
 {
     struct outcome outcome;
-    const char *name, *what;
-    begin_lending(filling);
+    size_t step = 0;
     begin_case(body, length);
     begin_answer();
-    if (!call_export(take_byte(), &outcome)) {
-        tell("there is", "no export of this number");
-        return 0;
-    }
-    if (!case_is_whole()) {
-        tell("the case", "has too few or too many bytes");
-        return 0;
-    }
-    if (spoiled)
-        spoil_guard(case_number);
-    what = what_is_wrong(ending_of(outcome.refusal), &name);
-    if (what != NULL)
-        tell(name, what);
-    if (outcome.wrong != NULL)
-        tell("the answer:", outcome.wrong);
+    unsigned char number = take_byte();
+    do {
+        begin_lending(filling);
+        if (!call_export(number, step, &outcome)) {
+            tell("there is", "no export of this number");
+            return 0;
+        }
+        if (!outcome.goes_on && !case_is_whole()) {
+            tell("the case", "has too few or too many bytes");
+            return 0;
+        }
+        if (spoiled)
+            spoil_guard(case_number + step);
+        judge(&outcome);
+        step++;
+    } while (outcome.goes_on);
     return 1;
 }
 

@@ -1,20 +1,25 @@
 """What the case and the answer of each call hold, by name, and how they become bytes and are read back.
 
-The layout is that of second_program/vectors.py. An argument or a value is a number, a list of numbers or, of clampcheck, a text, which is read as a list of
-lines. A lent result list stands in the case by its number of places and in the answer whole; an entry that is as it was before the call is None.
+The layout is that of second_program/vectors.py and fed_vectors.py. An argument or a value is a number, a list of numbers or, of clampcheck, a text, which is
+read as a list of lines. A lent result list stands in the case by its number of places and in the answer whole; an entry that is as it was before the call is
+None. A case of `feed` has steps, and its answer tells of each.
 """
 
 import struct
 from typing import NamedTuple, Sequence, Tuple
 
+from second_program.fed_vectors import END
 from second_program.record import PLACED
 from second_program.vectors import CALLS, before
 
-FORMATS = {"u8": "B", "u16": "H", "u32": "I", "i32": "i", "f64": "d"}
+FORMATS = {"u8": "B", "u16": "H", "u32": "I", "u64": "Q", "i32": "i", "f64": "d"}
+NUMBER = "the number of refusal"
 CURVE = (("degree", "u32"), ("knots", "u16[]"), ("x", "i32[]"), ("y", "i32[]"))
 LISTS = (("knots", "u16"), ("x", "i32"), ("y", "i32"))
 SIDES = tuple((side, "i32") for side in ("low_x", "high_x", "low_y", "high_y"))
 PLACE = (("place", "u32"),)
+JOB = (("degree", "u32"), ("points", "u32"), ("clamps", "u32"))
+SIDES_LIST = (("sides", "i32"),)
 SPLINE_POINTS = (("params", "u16[]"), ("px", "i32[]"), ("py", "i32[]"), ("tx", "i32[]"), ("ty", "i32[]"))
 
 
@@ -41,13 +46,12 @@ SHAPES = dict(
     list_spans_met=Shape(CURVE + SIDES, (("spans", "u32"),), (("lows", "u16"), ("highs", "u16"))),
     write_record=Shape(CURVE, (("length", "u32"),), (("bytes", "u8"),)),
     read_record=Shape((("bytes", "u8[]"),), (("degree", "u32"), ("points", "u32")), LISTS, broken=PLACE),
-    read_job=Shape(
-        (("bytes", "u8[]"),), (("degree", "u32"), ("points", "u32"), ("clamps", "u32")), LISTS + (("sides", "i32"),), broken=PLACE
-    ),
+    read_job=Shape((("bytes", "u8[]"),), JOB, LISTS + SIDES_LIST, broken=PLACE),
     clampcheck_text=Shape((("bytes", "u8[]"),), always=(("text", "text"),)),
+    feed=Shape((("places", "u32"), ("front", "u8[]"), ("received", "u64")), JOB, LISTS + SIDES_LIST, broken=PLACE),
 )
 assert tuple(SHAPES) == CALLS
-EXPORTED = CALLS[:-1]  # the text of clampcheck has no export
+EXPORTED = tuple(call for call in CALLS if call != "clampcheck_text")  # the text of clampcheck has no export
 
 
 class Broken(Exception):
@@ -99,10 +103,12 @@ class Case(NamedTuple):
     body: bytes
     places: Sequence  # of each lent result list
     answer: bytes = b""  # the right one
+    steps: Sequence = ()  # of `feed`: the bytes of a burst, or END
 
     @property
-    def number(self):
-        return struct.unpack("<I", self.answer[:4])[0]
+    def numbers(self):
+        """What each call of the case answers."""
+        return [value for name, value in told_in(self, Reader(self.answer)) if name.endswith(NUMBER)]
 
 
 def body_of(call, arguments, places):
@@ -130,19 +136,52 @@ def read_case(name, body):
     for _, kind in SHAPES[call].arguments:
         reader.value(kind)
     places = reader.numbers("u32", len(SHAPES[call].lists))
+    steps = read_steps(reader) if call == "feed" else ()
     if reader.more():
         raise Broken("%s has bytes left over" % name)
-    return Case(name, call, body, places)
+    return Case(name, call, body, places, steps=steps)
+
+
+def read_steps(reader):
+    """The steps of `feed`, which reach to the end of the case."""
+    steps = []
+    while reader.more():
+        kind = reader.number("u8")
+        if kind > 1:
+            raise Broken("a step begins with %d" % kind)
+        steps.append(reader.take(reader.number()) if kind else END)
+    return steps
+
+
+def told_behind(case, number, reader):
+    """What stands behind a number of refusal: values and lent lists."""
+    shape = SHAPES[case.call]
+    for name, kind in shape.told(number):
+        yield name, reader.value(kind)
+    for (name, kind), count in zip(shape.lists, case.places):
+        yield name, reader.numbers(kind, count)
+
+
+def told_in(case, reader):
+    """What the next answer says, one by one, as pairs of a name and a value."""
+    if case.call != "feed":
+        number = reader.number()
+        yield NUMBER, number
+        yield from told_behind(case, number, reader)
+        return
+    for k, step in enumerate(case.steps, 1):
+        number = reader.number()
+        yield "step %d: %s" % (k, NUMBER), number
+        yield "step %d: received" % k, reader.number("u64")
+        if step is END:
+            for name, value in told_behind(case, number, reader):
+                yield "step %d: %s" % (k, name), value
+    yield "the fingerprint of the work list", reader.number("u64")
 
 
 def read_answer(case, reader):
-    """What the next answer says, as pairs of a name and a value."""
-    shape = SHAPES[case.call]
-    number = reader.number()
-    told = [("the number of refusal", number)]
-    told += [(name, reader.value(kind)) for name, kind in shape.told(number)]
-    told += [(name, reader.numbers(kind, count)) for (name, kind), count in zip(shape.lists, case.places)]
-    return told
+    """All that the next answer says."""
+    return list(told_in(case, reader))
 
 
 def read_cases(cases, answers):

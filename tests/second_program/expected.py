@@ -32,7 +32,7 @@ def expect_broken(case):
 def expect_at(number, place, case):
     """A case of bytes that break at a known place."""
     if case.place != place and not PLANTED:
-        raise Unexpected("%s tells place %s, and %d was meant" % (case.call, case.place, place))
+        raise Unexpected("%s tells place %s, and %s was meant" % (case.call, case.place, place))
     return expect(number, case)
 
 

@@ -9,13 +9,23 @@ from functools import wraps
 PLANTED = os.environ.get("SECOND_FAULT")
 _answering = []
 
-# Faults beside the one that each call has: of a reader's places, and of what it tells first.
+# Faults beside the one that each call has: of a reader's places, of what it tells first, and of what is kept between bursts.
 MORE = (
     "read_record:length_place",  # the place of a length told as that of its tag
     "read_record:ended_first",  # 16 where the length is wrong and the contents run out too
     "read_job:left_over",  # a byte behind the 64th clamp told as an unexpected tag
     "read_job:half_length",  # 20 where the input ends between the two bytes of a length, the first of which fits none
     "clampcheck_text:one_too_far",  # every place one too far
+    "feed:one_short",  # a work list that is one place short taken
+    "feed:empty_ends",  # an empty burst taken for the end
+    "feed:early",  # a fault told by the burst that brings it
+    "feed:from_start",  # a burst kept from the start of the list on
+    "feed:over_front",  # what does not fit written over the front of the list
+    "feed:runs_on",  # the count not stopped behind the list
+    "feed:full_is_whole",  # a full list read as if no byte had come behind it
+    "feed:forgets",  # the count lost by an end that is refused for its work list
+    "feed:stale",  # the count kept by an end that is refused otherwise
+    "feed:room_is_room",  # the count kept by an end whose result does not fit
 )
 
 

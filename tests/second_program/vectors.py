@@ -11,6 +11,8 @@ the number of points, spans or bytes as u32, of `compact` the number removed, of
 reader's 16, 19, 20 or 21, and behind no other number, stands the place as u32. Then
 comes every lent result list whole, as it stands after the call. `carrying` has the lent number, then the count and the
 entries of the part. The text of `clampcheck` stands behind its number with a byte 0 after it.
+
+A case of `feed` is several calls: fed_vectors.py tells how it stands.
 """
 
 import struct
@@ -33,6 +35,7 @@ CALLS = (
     "read_record",
     "read_job",
     "clampcheck_text",
+    "feed",
 )
 must_be_of(CALLS)
 FORMATS = {"u8": "B", "u16": "H", "i32": "i"}
@@ -48,6 +51,7 @@ class Case(NamedTuple):
     asked: Sequence = ()
     clamps: Sequence = ()
     place: Optional[int] = None  # where the bytes break, if they do
+    numbers: Sequence = ()  # what each of its calls answers; all but `feed` have one
 
 
 def u32(*numbers):
@@ -79,7 +83,7 @@ def after(kind, room, result):
 
 def case(call, number, arguments, answer, points, curve=None, asked=(), clamps=(), place=None):
     body = bytes([CALLS.index(call) + 1]) + arguments
-    return Case(call, number, body, u32(number) + answer, points, None if number else curve, asked, clamps, place)
+    return Case(call, number, body, u32(number) + answer, points, None if number else curve, asked, clamps, place, (number,))
 
 
 def size(curve):

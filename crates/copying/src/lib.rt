@@ -28,6 +28,18 @@ pub fn copy_coordinates(from: &[i32], to: &mut [i32])
     }
 }
 
+// Bytes from one list over another.
+pub fn copy_bytes(from: &[u8], to: &mut [u8])
+    ensures result { λ _. ⌜ now (to .exit) ≡ over (take (length (now (to .entry))) (now (from .entry))) (now (to .entry)) ⌝ }
+{
+    let count = fewer(to.len(), from.len());
+    let mut i = 0;
+    while i < count {
+        to[i] = from[i];
+        i += 1;
+    }
+}
+
 // The smaller of two numbers.
 fn fewer(a: usize, b: usize) -> usize
     ensures answer { λ r. ⌜ r ≡ min a b ⌝ }

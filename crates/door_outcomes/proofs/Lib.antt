@@ -3,3 +3,4 @@ pub mod OutcomeLaws
 pub mod PlaceLaws
 pub mod CarryingLaws
 pub mod Controls
+pub mod FeedLaws

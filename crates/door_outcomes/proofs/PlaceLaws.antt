@@ -16,9 +16,10 @@ use Rattle.job.specs.JobReading as jobReading
 use Rattle.job.specs.JobReading.{JobComesTo}
 use Rattle.curve.specs.Lists.{Lists}
 use Rattle.clamps.specs.Clamp.{Clamp}
+use Rattle.tsaghnobir.specs.Outcomes.{short, told}
 use Rattle.round_trip.proofs.RecordTrip as records
 use Rattle.round_trip.proofs.JobTrip as trips
-use Rattle.door_outcomes.specs.Exports.{toldWithPlace, PlaceTold, RecordPlaceTold, JobPlaceTold}
+use Rattle.door_outcomes.specs.Exports.{toldWithPlace, PlaceTold, RecordPlaceTold, JobPlaceTold, FeedEndPlaceTold}
 
 -- 1 to 7, 14 and 15 are told without one
 no-place : (number : ℕ) → number ≤ roomRefused → toldWithPlace number ≡ false
@@ -61,3 +62,8 @@ record-place-told bytes before held number now holds h =
 pub job-place-told : JobPlaceTold
 job-place-told bytes before sidesBefore held number now sidesNow holds h =
     rw (h .answers, ap (λ (v : ℕ × ℕ × ℕ × ℕ). v .3) (h .places)) (job-by (held .3) (h .comesTo))
+
+pub feed-end-place-told : FeedEndPlaceTold
+feed-end-place-told received work before sidesBefore held number now sidesNow holds count (short less) bytes held-bytes = judged-told _ _ (omega arith)
+feed-end-place-told received work before sidesBefore held number now sidesNow holds count (told long _ _ _ _ hands) bytes held-bytes =
+    job-place-told bytes before sidesBefore held number now sidesNow holds (hands bytes held-bytes)

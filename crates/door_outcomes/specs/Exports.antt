@@ -1,9 +1,9 @@
--- What the contracts of the exports to C settle, in their own words (headings "How much each contract says", "The point at a parameter"): an export by cases
+-- What the contracts of the exports to C settle, in their own words (headings "How much each contract says", "The point at a parameter", "Jobs in bursts"): an export by cases
 -- has one outcome, a place is told with a fault and with nothing else, and the index that `tsb_carrying` hands back finds the coordinates that the carrying call hands back.
 use mathlib.Core.Bool.{Bool, true, false, _||_}
 use mathlib.Core.List.{List}
 use mathlib.Core.Path.{_≡_}
-use Prim.Native.Nat.{ℕ, _+_, _<_}
+use Prim.Native.Nat.{ℕ, _+_, _<_, _≤_}
 use lib.Dec.{eqb}
 use lib.IntN.{ℤ}
 use lib.ListN.{length, take, drop}
@@ -12,11 +12,15 @@ use Rattle.curve.specs.Lists.{Lists}
 use Rattle.fault.specs.Fault.{FileKind, Fault}
 use Rattle.fault.specs.Kinds.{loneRecords}
 use Rattle.job.specs.JobFormat.{jobs}
+use Rattle.grid.specs.Limits.{jobMost}
+use Rattle.feed.specs.Burst.{fresh}
+use Rattle.feed.specs.Ending.{Holds}
+use Rattle.bursts.specs.Bursts.{fedAll, joined}
 use Rattle.domain.specs.Parameter.{parameterNumber}
 use Rattle.carrying.specs.Carrying.{onAxis, partOf}
 use Rattle.carrying.specs.declared.Axis.{Axis}
 use Rattle.tsaghnobir.specs.Places.{placed, firstCarrying}
-use Rattle.tsaghnobir.specs.Outcomes.{RemovalHandsBack, CompactionHandsBack, RecordHandsBack, JobHandsBack}
+use Rattle.tsaghnobir.specs.Outcomes.{RemovalHandsBack, CompactionHandsBack, RecordHandsBack, JobHandsBack, FeedHandsBack}
 
 -- a contract permits one number, one content of the lent lists and one of the lent single numbers
 abbrev pub OneOutcome : {L P : Type 0} → (ℕ → L → P → Type 0) → Type 0
@@ -40,6 +44,22 @@ JobDetermined =
     (bytes : List ℕ) (before : Lists) (sidesBefore : List ℤ) (held : ℕ × ℕ × ℕ × ℕ)
     → OneOutcome (λ (number : ℕ) (now : Lists × List ℤ). JobHandsBack bytes before sidesBefore held number (now .0) (now .1))
 
+-- the end of a job in bursts, with the count of bytes received as a fifth single number
+abbrev pub FeedEndDetermined : Type 0
+FeedEndDetermined =
+    (received : ℕ) (work : List ℕ) (before : Lists) (sidesBefore : List ℤ) (held : ℕ × ℕ × ℕ × ℕ)
+    → OneOutcome
+    (λ (number : ℕ) (now : Lists × List ℤ) (holds : (ℕ × ℕ × ℕ × ℕ) × ℕ).
+    FeedHandsBack received work before sidesBefore held number (now .0) (now .1) (holds .0) (holds .1))
+
+-- bursts fed from a count of 0 on, and then the end: what reading a job hands back for all of them joined, and a count of 0 again
+abbrev pub FedHandsBackAsJoined : Type 0
+FedHandsBackAsJoined =
+    (work : List ℕ) → jobMost ≤ length work → (bursts : List (List ℕ)) (before : Lists) (sidesBefore : List ℤ) (held : ℕ × ℕ × ℕ × ℕ)
+    (number : ℕ) (now : Lists) (sidesNow : List ℤ) (holds : ℕ × ℕ × ℕ × ℕ) (received : ℕ)
+    → FeedHandsBack (fedAll fresh work bursts .0 .received) (fedAll fresh work bursts .1) before sidesBefore held number now sidesNow holds received
+    → JobHandsBack (joined bursts) before sidesBefore held number now sidesNow holds × (received ≡ 0)
+
 -- 16 and 19 to 21 are told with a place
 abbrev pub toldWithPlace : ℕ → Bool
 toldWithPlace number = eqb number endedRefused || eqb number tagRefused || eqb number lengthRefused || eqb number leftOverRefused
@@ -58,6 +78,14 @@ abbrev pub JobPlaceTold : Type 0
 JobPlaceTold =
     (bytes : List ℕ) (before : Lists) (sidesBefore : List ℤ) (held : ℕ × ℕ × ℕ × ℕ) (number : ℕ) (now : Lists) (sidesNow : List ℤ) (holds : ℕ × ℕ × ℕ × ℕ)
     → JobHandsBack bytes before sidesBefore held number now sidesNow holds → PlaceTold jobs bytes number (held .3) (holds .3)
+
+-- of the end of a job in bursts too, whichever bytes are held
+abbrev pub FeedEndPlaceTold : Type 0
+FeedEndPlaceTold =
+    (received : ℕ) (work : List ℕ) (before : Lists) (sidesBefore : List ℤ) (held : ℕ × ℕ × ℕ × ℕ)
+    (number : ℕ) (now : Lists) (sidesNow : List ℤ) (holds : ℕ × ℕ × ℕ × ℕ) (count : ℕ)
+    → FeedHandsBack received work before sidesBefore held number now sidesNow holds count
+    → (bytes : List ℕ) → Holds received work bytes → PlaceTold jobs bytes number (held .3) (holds .3)
 
 -- where nothing is refused, the entries `first` to `first` + m are inside the lists, and on either axis they are the part that the carrying call hands back
 abbrev pub FirstFindsCarrying : Type 0

@@ -1,6 +1,6 @@
 -- No fault lies further on than the longest file is long; so the front of longer bytes has the fault of them all.
 use mathlib.Core.Path.{_≡_, sym, _∙_, subst}
-use mathlib.Core.List.{List, _++_}
+use mathlib.Core.List.{List, [], _∷_, _++_, append-nil}
 use Prim.Native.Nat.{ℕ, _+_, _<_, _≤_}
 use native.Mathlib.Omega.{arith}
 use lib.ListN.{length, take, length-append}
@@ -13,7 +13,7 @@ module _ (kind : FileKind) (most : ℕ) (short : (file : List ℕ) → kind .Is 
   begins-most i inside (rest, is) = omega (arith, short (take i bytes ++ rest) is, length-append (take i bytes) rest, length-take-le i bytes inside)
 
   -- a file that begins with whole fields and a tag has two bytes more at least
-  in-length-most : (at : ℕ) → at + 2 ≤ length bytes → Stops kind bytes at (at + 1) (at + 2) → at + 2 ≤ most
+  pub in-length-most : (at : ℕ) → at + 2 ≤ length bytes → Stops kind bytes at (at + 1) (at + 2) → at + 3 ≤ most
   in-length-most at inside stops =
       let rest : List ℕ = stops .begins .0 in
       let file : List ℕ = take (at + 1) bytes ++ rest in
@@ -32,9 +32,9 @@ module _ (kind : FileKind) (most : ℕ) (short : (file : List ℕ) → kind .Is 
   fault-most (wrongLength at stops) = begins-most (at + 1) (omega (arith, stops .inside)) (stops .begins)
   fault-most (leftOver at stops full) = begins-most at (omega (arith, stops .inside)) (stops .begins)
 
--- bytes longer than the longest file: a front of them that is longer too has their fault
+-- bytes no shorter than the longest file: a front of them that is no shorter either, and has a fault, has theirs
 module _ (kind : FileKind) (most : ℕ) (short : (file : List ℕ) → kind .Is file → length file ≤ most) (fieldsOf : (file : List ℕ) → kind .Is file → WholeFields file)
-    (bytes : List ℕ) (kept : ℕ) (more : most < kept) (enough : kept ≤ length bytes) where
+    (bytes : List ℕ) (kept : ℕ) (more : most ≤ kept) (enough : kept ≤ length bytes) where
   long : length (take kept bytes) ≡ kept
   long = length-take-le kept bytes enough
 
@@ -51,9 +51,15 @@ module _ (kind : FileKind) (most : ℕ) (short : (file : List ℕ) → kind .Is 
   full-kept : {at : ℕ} → at < kept → take at (take kept bytes) ≡ take at bytes
   full-kept {at} h = take-take at kept bytes (omega arith)
 
+  -- what such a front begins is the front itself
+  whole : (rest : List ℕ) → kind .Is (take kept bytes ++ rest) → kind .Is (take kept bytes)
+  whole [] is = subst (kind .Is) (append-nil (take kept bytes)) is
+  whole (b ∷ rest) is = absurd (omega (arith, short (take kept bytes ++ b ∷ rest) is, length-append (take kept bytes) (b ∷ rest), long))
+
   pub fault-kept : {n p : ℕ} → Fault kind (take kept bytes) n p → Fault kind bytes n p
-  fault-kept (endsEarly none begins) = absurd (omega (arith, fault-most kind most short fieldsOf (take kept bytes) (endsEarly none begins), long))
-  fault-kept (endsInLength at stops e) = absurd (omega (arith, fault-most kind most short fieldsOf (take kept bytes) (endsInLength at stops e), long))
+  fault-kept (endsEarly none (rest, is)) = absurd (none (whole rest is))
+  fault-kept (endsInLength at stops e) =
+      absurd (omega (arith, in-length-most kind most short fieldsOf (take kept bytes) at (omega arith) stops, long))
   fault-kept (wrongTag at stops others) =
       wrongTag at (stops-kept (omega arith) (omega arith) stops) (λ full. others (subst (kind .Full) (sym (full-kept {at = at} (omega (arith, stops .inside, long)))) full))
   fault-kept (wrongLength at stops) = wrongLength at (stops-kept (omega arith) (omega arith) stops)

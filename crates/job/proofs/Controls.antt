@@ -36,14 +36,14 @@ job-of-line : jobBytes form1 1 line two
 unfolding jobBytes recordBytes line two
 job-of-line = refl
 
-clampsA : List Clamp
+unfoldable pub clampsA : List Clamp
 clampsA =
     record { lowX = pos 2; highX = pos 3; lowY = pos 5; highY = pos 9 }
     ∷ record { lowX = pos 9; highX = pos 12; lowY = pos 0; highY = pos 4 }
     ∷ record { lowX = pos 8; highX = pos 10; lowY = pos 8; highY = pos 9 }
     ∷ []
 
-jobA : List ℕ
+unfoldable pub jobA : List ℕ
 jobA = jobBytes form1 3 curveA clampsA
 
 -- 61 bytes of record, and 19 a clamp
@@ -51,7 +51,7 @@ long-A : length jobA ≡ 118
 unfolding jobA jobBytes recordBytes curveA clampsA
 long-A = refl
 
-sound-A : jobLayout jobA ≡ Sound 16 16 16 3
+pub sound-A : jobLayout jobA ≡ Sound 16 16 16 3
 unfolding jobLayout recordLayout fieldAt lengthOk clampsFrom jobA jobBytes recordBytes curveA clampsA
 sound-A = refl
 

@@ -5,6 +5,8 @@ use mathlib.Core.List.{List, _∷_, _++_, append-assoc}
 use Prim.Native.Nat.{ℕ, _+_, _*_, _≤_}
 use native.Mathlib.Omega.{arith}
 use lib.ListN.{length, take, length-append}
+use lib.Seq.{take-append-seam, take-at}
+use Rattle.refusal.specs.Numbers.{leftOverRefused}
 use Rattle.grid.specs.Limits.{clampsMost, jobMost}
 use Rattle.fields.specs.Bytes.{Octets}
 use Rattle.fields.proofs.PlaceLaws.{length-each}
@@ -127,12 +129,18 @@ job-whole bytes w =
     (job-fields (Row clampTag (lengthOk clampRule) (length (w .cs))) bytes w (clamps-row (w .cs)))
 
 -- a record, and a field for each clamp: no job is longer than the longest
-pub job-most : (bytes : List ℕ) → IsJob form1 bytes → length bytes ≤ jobMost
+job-size : (bytes : List ℕ) (w : IsJob form1 bytes) → length bytes ≡ length (recordBytes form1 (w .m) (w .c)) + clampFieldBytes * length (w .cs)
 unfolding jobBytes
-job-most bytes w =
-    let recorded : List ℕ = recordBytes form1 (w .m) (w .c) in
-    let size : length (clampFields (w .cs)) ≡ clampFieldBytes * length (w .cs) = length-each clampField clampFieldBytes (λ _. refl) (w .cs) in
-    omega (arith, ap length (w .same), length-append recorded (clampFields (w .cs)), record-most (w .m) (w .c) (w .storable .curve), w .storable .few)
+job-size bytes w =
+    ap length (w .same) ∙ length-append (recordBytes form1 (w .m) (w .c)) (clampFields (w .cs))
+    ∙ ap (λ (n : ℕ). length (recordBytes form1 (w .m) (w .c)) + n) (length-each clampField clampFieldBytes (λ _. refl) (w .cs))
+
+pub job-most : (bytes : List ℕ) → IsJob form1 bytes → length bytes ≤ jobMost
+job-most bytes w = omega (arith, job-size bytes w, record-most (w .m) (w .c) (w .storable .curve), w .storable .few)
+
+-- and one as long as the longest has all the clamps that a job may have
+job-full : (bytes : List ℕ) → IsJob form1 bytes → jobMost ≤ length bytes → FullJob form1 bytes
+job-full bytes w long = record { job = w; many = omega (arith, job-size bytes w, record-most (w .m) (w .c) (w .storable .curve), w .storable .few) }
 
 -- nor does its fault lie further on
 pub job-fault-most : (bytes : List ℕ) {n p : ℕ} → Fault jobs bytes n p → p ≤ jobMost
@@ -141,6 +149,12 @@ job-fault-most bytes fault = fault-most jobs jobMost job-most job-whole bytes fa
 -- so one byte more than the longest job has is enough to tell it
 pub job-fault-kept : JobFaultKept
 job-fault-kept bytes number place more fault = fault-kept jobs jobMost job-most job-whole bytes (jobMost + 1) (omega arith) (omega arith) fault
+
+-- what stands behind a front as long as the longest job does not move the fault of that front
+pub job-fault-behind : (front rest : List ℕ) {n p : ℕ} → jobMost ≤ length front → Fault jobs front n p → Fault jobs (front ++ rest) n p
+job-fault-behind front rest {n} {p} long fault =
+    fault-kept jobs jobMost job-most job-whole (front ++ rest) (length front) long (omega (arith, length-append front rest))
+    (subst (λ (l : List ℕ). Fault jobs l n p) (sym (take-append-seam front rest)) fault)
 
 pub jobs-told : FaultsTold jobs
 jobs-told =
@@ -155,3 +169,11 @@ jobs-told =
     by : (bytes : List ℕ) → Octets bytes → (l : JobLayout) → jobLayout bytes ≡ l → IsJob form1 bytes ⊎ ((number : ℕ) × (place : ℕ) × Fault jobs bytes number place)
     by bytes octets (Sound k x y n) e = inl (job-of-sound bytes octets k x y n e)
     by bytes octets (Broken found) e = inr (found .number, found .place, job-fault bytes octets found e)
+
+-- and where that front is a job itself, it is the byte behind it that is left over
+pub job-left-over : (front : List ℕ) (b : ℕ) (rest : List ℕ) → jobMost ≤ length front → IsJob form1 front → Fault jobs (front ++ b ∷ rest) leftOverRefused jobMost
+job-left-over front b rest long w =
+    let size : length front ≡ jobMost = omega (arith, job-most front w) in
+    let all : List ℕ = front ++ b ∷ rest in
+    let cut : take jobMost all ≡ front = take-at front (b ∷ rest) jobMost size in
+    jobs-told .over all jobMost (omega (arith, length-append front (b ∷ rest))) (subst (FullJob form1) (sym cut) (job-full front w long))

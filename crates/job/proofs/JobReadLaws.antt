@@ -1,20 +1,25 @@
--- A job's number by what was judged, each where it was; and what a refusal answers and leaves.
+-- A job's number by what was judged, each where it was; and what a refusal and a fault answer and leave.
 use mathlib.Core.Bool.{true, false}
-use mathlib.Core.List.{List}
-use mathlib.Core.Path.{_≡_, sym, ap₂, _∙_}
+use mathlib.Core.List.{List, []}
+use mathlib.Core.Path.{_≡_, refl, sym, ap₂, _∙_}
 use Prim.Native.Nat.{ℕ, _<_, _≤_}
+use lib.IntN.{ℤ}
 use lib.ListN.{length}
 use borrow.Author.Tests.{le-leb, lt-leb, ne-eqb}
 use Rattle.refusal.specs.Numbers.{rectangleRefused, roomRefused}
 use Rattle.curve.specs.HandingOver.{roomNumber}
 use Rattle.curve.specs.Lists.{Lists}
+use Rattle.curve.proofs.HandingLaws.{handedOver-refused}
 use Rattle.grid.specs.Check.{checkNumber}
 use Rattle.grid.proofs.ThenLaws.{checkedThen-refused, checkedThen-passed}
-use Rattle.fault.specs.Verdict.{Verdict, judged}
+use Rattle.fault.specs.Fault.{Fault}
+use Rattle.fault.specs.Verdict.{Verdict, judged, broken}
+use Rattle.fault.proofs.OneFaultLaws.{fault-refuses}
 use Rattle.clamps.specs.Clamp.{Clamp, allSides, clampsOk}
-use Rattle.job.specs.JobReading.{jobNumber, jobAnswer}
+use Rattle.job.specs.JobFormat.{jobs}
+use Rattle.job.specs.JobReading.{jobNumber, jobAnswer, isBroken, JobRead}
 use Rattle.job.specs.declared.JobAnswer.{JobAnswer}
-use Rattle.job.specs.declared.JobAnswer.the-variants.{Job, Refused}
+use Rattle.job.specs.declared.JobAnswer.the-variants.{Job, Broken, Refused}
 
 module _ (m : ℕ) (c : Lists) (cs : List Clamp) (lent : Lists) (places : ℕ) where
   -- the check refuses
@@ -51,3 +56,18 @@ job-counted a verdict m points clamps counted many e p q = e ∙ ap₂ (jobAnswe
 -- nothing refused: the degree, the number of points and the number of clamps
 pub job-accepted : (told d m points clamps : ℕ) → told ≡ 0 → d ≡ m → Job d points clamps ≡ jobAnswer (judged told) m points clamps
 job-accepted told d m points clamps e isM = rw (e, isM)
+
+-- a fault answers its number and its place, and leaves all four lists as they were
+pub broken-read : (bytes : List ℕ) {n p : ℕ} (before : Lists) (sides : List ℤ) → Fault jobs bytes n p → JobRead bytes before sides (Broken n p) before sides
+broken-read bytes {n} {p} before sides fault =
+    let refused = fault-refuses jobs bytes fault in
+    record {
+      verdict = broken n p;
+      m = 0;
+      c = before;
+      cs = [];
+      comesTo = isBroken fault 0 before [];
+      answers = refl;
+      hands = sym (handedOver-refused n before before refused);
+      clampsNow = rw (ne-eqb n 0 refused);
+    }

@@ -1,4 +1,4 @@
--- What reading a job answers and leaves, by what the bytes are (headings "The record on disk" and "Numbers of refusal").
+-- What judging and reading a job answer and leave, by what the bytes are (headings "The record on disk" and "Numbers of refusal").
 use mathlib.Core.Bool.{Bool, _&&_}
 use mathlib.Core.List.{List}
 use mathlib.Core.Path.{_≡_}
@@ -17,8 +17,16 @@ use Rattle.clamps.specs.Clamp.{Clamp, allSides, clampsOk}
 use Rattle.fault.specs.Fault.{Fault}
 use Rattle.fault.specs.Verdict.{Verdict, judged, broken, numberOf}
 use Rattle.job.specs.JobFormat.{IsJob, jobs}
+use Rattle.layout.specs.declared.Break.{Break}
+use Rattle.job.specs.declared.Judged.{Judged}
+use Rattle.job.specs.declared.Judged.the-variants.{Sound, Broken as Faulty}
 use Rattle.job.specs.declared.JobAnswer.{JobAnswer}
 use Rattle.job.specs.declared.JobAnswer.the-variants.{Job, Broken, Refused}
+
+-- bytes that are only judged: a job, or their leftmost fault
+pub data JobJudged (bytes : List ℕ) : Judged → Type 0 where
+  sound : IsJob form1 bytes → JobJudged bytes Sound
+  faulty : (found : Break) → Fault jobs bytes (found .number) (found .place) → JobJudged bytes (Faulty found)
 
 -- row 15: the list of sides has four places a clamp, and the curve's three lists have room
 abbrev pub jobRoomFor : Lists → List Clamp → Lists → ℕ → Bool

@@ -7,7 +7,7 @@ use layout::Layout;
 ghost use mathlib.Core.Path.{_≡_};
 ghost use Rattle.curve.specs.Lists.{lists};
 ghost use Rattle.job.specs.JobJudging.{jobLayout};
-ghost use Rattle.job.specs.JobReading.{JobRead};
+ghost use Rattle.job.specs.JobReading.{JobJudged, JobRead};
 
 // The lengths of a job's fields of knots, x and y, and the number of its clamps. Or why there is no job.
 pub enum JobLayout {
@@ -17,6 +17,12 @@ pub enum JobLayout {
         ys: usize,
         clamps: usize,
     },
+    Broken(Break),
+}
+
+// A job, or where the bytes break.
+pub enum Judged {
+    Sound,
     Broken(Break),
 }
 
@@ -53,6 +59,16 @@ pub(crate) fn job_layout(bytes: &[u8]) -> JobLayout
             Tail::Broken(fault) => JobLayout::Broken(fault),
         },
         Layout::Broken(fault) => JobLayout::Broken(fault),
+    }
+}
+
+// Whether bytes are a job, and where they break if they are none.
+pub fn judge_job(bytes: &[u8]) -> Judged
+    ensures answer { λ r. ⌜ JobJudged (now (bytes .entry)) r ⌝ }
+{
+    match job_layout(bytes) {
+        JobLayout::Sound { .. } => Judged::Sound,
+        JobLayout::Broken(found) => Judged::Broken(found),
     }
 }
 

@@ -23,7 +23,11 @@ use Rattle.spans_met.proofs.OutcomeLaws.{success-lists-spans, accepted-list-is-
 use Rattle.record.proofs.SentenceLaws.{write-answers, read-answers}
 use Rattle.job.proofs.SentenceLaws.{job-answers}
 use Rattle.door_outcomes.proofs.OutcomeLaws as Door
-use Rattle.door_outcomes.proofs.PlaceLaws.{record-place-told, job-place-told}
+use Rattle.door_outcomes.proofs.PlaceLaws.{record-place-told, job-place-told, feed-end-place-told}
+use Rattle.door_outcomes.proofs.FeedLaws.{feed-end-determined, fed-hands-back-as-joined}
+use Rattle.feed.proofs.SentenceLaws.{burst-answers-first, burst-is-kept, short-list-kept, empty-burst-changes-nothing}
+use Rattle.bursts.proofs.JoinedLaws.{fed-reads-as-joined, fed-is-held}
+use Rattle.bursts.proofs.OutcomeLaws.{end-determined}
 use Rattle.breaks.proofs.LoneLaws.{records-told}
 use Rattle.job.proofs.JobFaultLaws.{jobs-told, job-fault-kept}
 use Rattle.door_outcomes.proofs.CarryingLaws.{first-finds-carrying}
@@ -44,7 +48,7 @@ use Rattle.job_text.proofs.UniqueLaws.{one-text, broken-is-one-line}
 use Rattle.clear_is_clear.proofs.ClearLaws.{clear-is-clear, every-clamp-told, else-listed}
 use Rattle.knots_exact.proofs.CompactionLaws.{compact-keeps-curve, editing-passes}
 use Rattle.compact.proofs.OutcomeLaws as Compaction
-use Rattle.promises.specs.Promises.{CheckGivesLowestRow, RefusalsAnswerFirst, ResultsHandedOver, CarryingPointsCarry, SpansListedExactly, InsertedEntryByEntry, InsertedThenRemoved, CompactionTakesWhatItCounts, JoinedCurveMeetsPoints, ExportsDetermined, EveryParameterHasItsSpan, ComputedPointNearExact, CrossingsReported, InsertionKeepsCurve, RemovalKeepsCurve, RemovalDetermined, CompactionKeepsCurve, CompactionDetermined, EditedCurvePasses, JoinedCurvePasses, JoinedCurveIsHermite, RecordsGoRound, FaultIsLeftmost, PlacesToldWithFaults, ReadingIsExact, JobsReadBack, ProgramWritesItsText, ClearMeansClear, WorkedCasesHold}
+use Rattle.promises.specs.Promises.{CheckGivesLowestRow, RefusalsAnswerFirst, ResultsHandedOver, CarryingPointsCarry, SpansListedExactly, InsertedEntryByEntry, InsertedThenRemoved, CompactionTakesWhatItCounts, JoinedCurveMeetsPoints, ExportsDetermined, EveryParameterHasItsSpan, ComputedPointNearExact, CrossingsReported, InsertionKeepsCurve, RemovalKeepsCurve, RemovalDetermined, CompactionKeepsCurve, CompactionDetermined, EditedCurvePasses, JoinedCurvePasses, JoinedCurveIsHermite, RecordsGoRound, FaultIsLeftmost, PlacesToldWithFaults, ReadingIsExact, JobsReadBack, BurstsReadAsJoined, BurstsAreKept, ProgramWritesItsText, ClearMeansClear, WorkedCasesHold}
 
 pub check-gives-lowest-row : CheckGivesLowestRow
 check-gives-lowest-row = check-answers
@@ -118,6 +122,7 @@ refusals-answer-first = (
   write-answers,
   read-answers,
   job-answers,
+  burst-answers-first,
 )
 
 pub results-handed-over : ResultsHandedOver
@@ -156,7 +161,13 @@ pub fault-is-leftmost : FaultIsLeftmost
 fault-is-leftmost = (records-told, jobs-told, job-fault-kept)
 
 pub places-told-with-faults : PlacesToldWithFaults
-places-told-with-faults = (record-place-told, job-place-told)
+places-told-with-faults = (record-place-told, job-place-told, feed-end-place-told)
 
 pub exports-determined : ExportsDetermined
-exports-determined = (Door.removal-determined, Door.compaction-determined, Door.record-determined, Door.job-determined)
+exports-determined = (Door.removal-determined, Door.compaction-determined, Door.record-determined, Door.job-determined, feed-end-determined)
+
+pub bursts-read-as-joined : BurstsReadAsJoined
+bursts-read-as-joined = (fed-reads-as-joined, fed-is-held, end-determined, fed-hands-back-as-joined)
+
+pub bursts-are-kept : BurstsAreKept
+bursts-are-kept = (burst-is-kept, short-list-kept, empty-burst-changes-nothing)

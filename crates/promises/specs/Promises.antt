@@ -29,6 +29,8 @@ use Rattle.spans_met.specs.Sentences.{ListAnswersFirst}
 use Rattle.spans_met.specs.Outcome.{SuccessListsSpans, AcceptedListIsExact, RefusalListsNothing}
 use Rattle.record.specs.Sentences.{WriteAnswersFirst, ReadAnswersFirst}
 use Rattle.job.specs.Sentences.{JobFaultKept, JobAnswersFirst}
+use Rattle.feed.specs.Sentences.{BurstAnswersFirst, BurstIsKept, ShortListKept, EmptyBurstChangesNothing}
+use Rattle.bursts.specs.Bursts.{FedReadsAsJoined, FedIsHeld, EndDetermined}
 use Rattle.fault.specs.Told.{FaultsTold}
 use Rattle.fault.specs.Kinds.{loneRecords}
 use Rattle.job.specs.JobFormat.{jobs}
@@ -56,7 +58,7 @@ CheckGivesLowestRow = (m : ℕ) (ts : List ℕ) (xs ys : List ℤ) → AnswersFi
 abbrev pub RefusalsAnswerFirst : Type 0
 RefusalsAnswerFirst =
     (EightExactly × AcceptedExactly × CurveJudgedFirst) × InsertionAnswersFirst × RemovalAnswersFirst × CompactionAnswersFirst
-    × JoinAnswersFirst × ListAnswersFirst × WriteAnswersFirst × ReadAnswersFirst × JobAnswersFirst
+    × JoinAnswersFirst × ListAnswersFirst × WriteAnswersFirst × ReadAnswersFirst × JobAnswersFirst × BurstAnswersFirst
 
 -- "Numbers of refusal": 15 exactly where some list has fewer places than its result; a result stands in front of what was there before, entry for
 -- entry; a refusal leaves all three lists as they were
@@ -161,6 +163,16 @@ ReadingIsExact = Trip.FaultsExactly × Trip.ReadingDetermined × Trip.JobFaultsE
 abbrev pub JobsReadBack : Type 0
 JobsReadBack = Trip.JobReadsBack × Trip.JobsShort
 
+-- "Jobs in bursts": from a fresh state on, any bursts that are fed one after the other and then the end answer and leave what reading all of them joined
+-- does, and the state is fresh again; until then the work list holds them in order, as far as they fit; whatever the state, the end has one outcome
+abbrev pub BurstsReadAsJoined : Type 0
+BurstsReadAsJoined = FedReadsAsJoined × FedIsHeld × EndDetermined × Door.FedHandsBackAsJoined
+
+-- "Jobs in bursts": what a burst leaves, entry by entry, and how it is counted; a work list that is too short takes none, and an empty burst changes
+-- nothing
+abbrev pub BurstsAreKept : Type 0
+BurstsAreKept = BurstIsKept × ShortListKept × EmptyBurstChangesNothing
+
 -- "`clampcheck`": for any bytes, each part that `clampcheck` writes is that part of their text, the parts in a row are the whole text, bytes have
 -- one text, and that of bytes which are no job is one line with the number and the place of their leftmost fault
 abbrev pub ProgramWritesItsText : Type 0
@@ -173,12 +185,12 @@ ClearMeansClear = ClearIsClear × EveryClampTold × ElseListed
 
 -- "How much each contract says": where an export speaks of some answer of the call that it wraps, what it answers is determined
 abbrev pub ExportsDetermined : Type 0
-ExportsDetermined = Door.RemovalDetermined × Door.CompactionDetermined × Door.RecordDetermined × Door.JobDetermined
+ExportsDetermined = Door.RemovalDetermined × Door.CompactionDetermined × Door.RecordDetermined × Door.JobDetermined × Door.FeedEndDetermined
 
 -- "How much each contract says": of the exports that read, the number lent for the place is written with 16 and 19 to 21, with the place of the leftmost
 -- fault, and with no other answer
 abbrev pub PlacesToldWithFaults : Type 0
-PlacesToldWithFaults = Door.RecordPlaceTold × Door.JobPlaceTold
+PlacesToldWithFaults = Door.RecordPlaceTold × Door.JobPlaceTold × Door.FeedEndPlaceTold
 
 -- "Worked by hand": every worked case holds of the calls' own answers
 abbrev pub WorkedCasesHold : Type 0

@@ -11,6 +11,7 @@ use Rattle.joining.specs.declared.JoinAnswer.the-variants as joined
 use Rattle.record.specs.declared.WriteAnswer.the-variants as written
 use Rattle.record.specs.declared.ReadAnswer.the-variants as read
 use Rattle.job.specs.declared.JobAnswer.the-variants as job
+use Rattle.feed.specs.declared.BurstAnswer.the-variants as burst
 use Rattle.tsaghnobir.proofs.ArmLaws.{Variants, Told}
 
 pub point-variants : Variants pointed.At pointed.Refused
@@ -33,6 +34,9 @@ join-variants = record { apart = λ v n e. cc; same-value = λ v w e. cc; same-n
 
 pub write-variants : Variants written.Written written.Refused
 write-variants = record { apart = λ v n e. cc; same-value = λ v w e. cc; same-number = λ m n e. cc }
+
+pub burst-variants : Variants burst.Fed burst.Refused
+burst-variants = record { apart = λ v n e. cc; same-value = λ v w e. cc; same-number = λ m n e. cc }
 
 -- degree and number of points
 same-curve : (v w : ℕ × ℕ) → read.Curve (v .0) (v .1) ≡ read.Curve (w .0) (w .1) → v ≡ w

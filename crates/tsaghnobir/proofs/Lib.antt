@@ -5,3 +5,4 @@ mod CompactLaws
 mod HandsBackLaws
 pub mod ReadingLaws
 mod SpansLaws
+pub mod BurstLaws

@@ -21,6 +21,7 @@ use Rattle.job.specs.declared.JobAnswer.{JobAnswer}
 use Rattle.job.specs.declared.JobAnswer.the-variants.{Job, Broken as BrokenJob, Refused as NoJob}
 use Rattle.clamps.specs.Clamp.{Clamp}
 use Rattle.tsaghnobir.specs.Places.{placed}
+use Rattle.tsaghnobir.specs.Answered.{jobPlaced}
 use Rattle.tsaghnobir.specs.Outcomes.{RecordHandsBack, JobHandsBack}
 use Rattle.tsaghnobir.proofs.ArmLaws.{toldBy, done-told, refused-told, broken-told}
 use Rattle.tsaghnobir.proofs.Answers.{read-told, job-told}
@@ -118,3 +119,11 @@ module _ {bytes : List ℕ} {before now : Lists} {sidesBefore sidesNow : List �
   job-refused {n} {held} arm =
       let known = refused-told job-told (call .verdict) job-counts told-job arm in
       job-handed (judged n) (known .0) (rw (ne-eqb n 0 (known .1)))
+
+-- what is placed of an answer is what the export hands back
+pub job-placed : {bytes : List ℕ} {before now : Lists} {sidesBefore sidesNow : List ℤ} (answer : JobAnswer) (held : ℕ × ℕ × ℕ × ℕ)
+    → JobRead bytes before sidesBefore answer now sidesNow
+    → JobHandsBack bytes before sidesBefore held (jobPlaced answer held .0) now sidesNow (jobPlaced answer held .1)
+job-placed (Job m points clamps) (a, b, c, place) call = job-read call {held = (a, b, c)} refl
+job-placed (BrokenJob n p) held call = job-broken call refl
+job-placed (NoJob n) held call = job-refused call refl

@@ -1,11 +1,13 @@
--- What the exports by cases hand back (headings "Inserting and removing a knot", "The record on disk", "Numbers of refusal"). `number` is the answer;
+-- What the exports by cases hand back (headings "Inserting and removing a knot", "The record on disk", "Jobs in bursts", "Numbers of refusal"). `number` is the answer;
 -- `before` and `now` are the lent lists before the call and after it, `held` and `holds` the single numbers lent with them.
 use mathlib.Core.List.{List}
 use mathlib.Core.Path.{_≡_}
-use Prim.Native.Nat.{ℕ}
+use Prim.Native.Nat.{ℕ, _<_, _≤_}
 use lib.IntN.{ℤ}
 use lib.ListN.{length}
 use Rattle.lent.specs.Lent.{after}
+use Rattle.refusal.specs.Numbers.{roomRefused}
+use Rattle.grid.specs.Limits.{jobMost}
 use Rattle.curve.specs.Lists.{Lists}
 use Rattle.curve.specs.HandingOver.{handedOver}
 use Rattle.removal.specs.Outcome.{RemovalComesTo}
@@ -14,6 +16,7 @@ use Rattle.clamps.specs.Clamp.{Clamp, allSides}
 use Rattle.fault.specs.Verdict.{Verdict, numberOf, placeOr}
 use Rattle.record.specs.Reading.{RecordComesTo}
 use Rattle.job.specs.JobReading.{JobComesTo}
+use Rattle.feed.specs.Ending.{Holds}
 use Rattle.tsaghnobir.specs.Places.{placed}
 
 -- a call comes to the number and to some curve; the lists follow, and the single numbers by `counts` of that curve
@@ -54,3 +57,13 @@ pub record JobHandsBack (bytes : List ℕ) (before : Lists) (sidesBefore : List 
   pub clampsNow : sidesNow ≡ after number (allSides cs) sidesBefore
   pub places : holds
       ≡ (placed number m (held .0), placed number (length (c .xs)) (held .1), placed number (length cs) (held .2), placeOr verdict (held .3))
+
+-- the end of a job in bursts, by the count of bytes received and the work list; the last number is the count afterwards
+pub data FeedHandsBack (received : ℕ) (work : List ℕ) (before : Lists) (sidesBefore : List ℤ) (held : ℕ × ℕ × ℕ × ℕ) :
+    ℕ → Lists → List ℤ → ℕ × ℕ × ℕ × ℕ → ℕ → Type 0 where
+  -- a work list shorter than the longest job: 15 at once, and the count stays
+  short : length work < jobMost → FeedHandsBack received work before sidesBefore held roomRefused before sidesBefore held received
+  -- else as reading a job, whichever bytes are held, and the count is 0 again
+  told : jobMost ≤ length work → (number : ℕ) (now : Lists) (sidesNow : List ℤ) (holds : ℕ × ℕ × ℕ × ℕ)
+      → ((bytes : List ℕ) → Holds received work bytes → JobHandsBack bytes before sidesBefore held number now sidesNow holds)
+      → FeedHandsBack received work before sidesBefore held number now sidesNow holds 0

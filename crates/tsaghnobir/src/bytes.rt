@@ -10,6 +10,7 @@ ghost use Rattle.format.specs.Format.{form1, recordBytes};
 ghost use Rattle.record.specs.Writing.{writeNumber};
 ghost use Rattle.tsaghnobir.specs.Places.{placed};
 ghost use Rattle.tsaghnobir.specs.Outcomes.{RecordHandsBack, JobHandsBack};
+ghost use Rattle.tsaghnobir.specs.Answered.{jobPlaced};
 
 #[no_mangle]
 pub extern "C" fn tsb_write_record(
@@ -86,6 +87,20 @@ pub extern "C" fn tsb_read_job(
         (now (degree .exit), now (points .exit), now («clamp_count» .exit), now (place .exit)) ⌝ }
 {
     let answer = job::read_job(bytes, out_knots, out_xs, out_ys, clamps);
+    place_job(answer, degree, points, clamp_count, place)
+}
+
+// Writes what reading a job answers through the places lent for it, and answers the number.
+pub(crate) fn place_job(
+    answer: JobAnswer,
+    degree: &mut u32,
+    points: &mut usize,
+    clamp_count: &mut usize,
+    place: &mut usize,
+) -> u32
+    ensures answer { λ r. ⌜ (r, (now (degree .exit), now (points .exit), now («clamp_count» .exit), now (place .exit)))
+        ≡ jobPlaced answer (now (degree .entry), now (points .entry), now («clamp_count» .entry), now (place .entry)) ⌝ }
+{
     match answer {
         JobAnswer::Job {
             degree: m,

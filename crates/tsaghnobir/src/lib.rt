@@ -1,10 +1,13 @@
 // The calls as C, C++, Rust and Python programs see them: include/tsaghnobir.h declares these functions.
 // Each answers with the number of refusal, 0 for none, and writes through lent places what the wrapped call answers.
+mod bursts;
 mod bytes;
 mod knots;
 mod questions;
 mod spline_points;
 
+pub use bursts::tsb_feed;
+pub use bursts::tsb_feed_end;
 pub use bytes::tsb_read_job;
 pub use bytes::tsb_read_record;
 pub use bytes::tsb_write_record;

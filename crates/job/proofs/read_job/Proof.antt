@@ -1,29 +1,24 @@
 -- Sound bytes are the job of the lists in them, others are nobody's.
-use mathlib.Core.List.{[]}
-use mathlib.Core.Path.{_≡_, refl, sym, _∙_}
+use mathlib.Core.Path.{_≡_, sym, _∙_}
 use Prim.Native.Nat.{_/_}
 use native.Mathlib.Nat.{le-of-eq}
 use lib.ListN.{length}
 use Rattle.curve.specs.Lists.{lists}
-use Rattle.curve.proofs.HandingLaws.{handedOver-refused}
 use Rattle.fields.specs.Bytes.{Octets}
 use Rattle.fields.proofs.PlaceLaws.{length-entriesAt}
 use Rattle.format.specs.RecordPlaces.{recordEnd}
 use Rattle.layout.specs.StoredCurve.{degreeIn, curveIn}
 use Rattle.layout.proofs.StoredLaws.{stored-xs}
 use Rattle.clamps.specs.Clamp.{clampFieldBytes, clampAt}
-use Rattle.fault.specs.Verdict.{judged, broken}
-use Rattle.fault.proofs.OneFaultLaws.{fault-refuses}
-use Rattle.job.specs.JobFormat.{jobs}
+use Rattle.fault.specs.Verdict.{judged}
 use Rattle.job.specs.JobJudging.{jobLayout}
-use Rattle.job.specs.JobReading.{isJob, isBroken}
+use Rattle.job.specs.JobReading.{isJob}
 use Rattle.job.specs.StoredJob.{clampsIn, storedNumber}
 use Rattle.job.specs.declared.JobLayout.the-variants.{Sound}
-use Rattle.job.proofs.JobReadLaws.{job-counted}
+use Rattle.job.proofs.JobReadLaws.{job-counted, broken-read}
 use Rattle.job.proofs.JobLayoutLaws.{job-joined, job-run, job-few, job-of-sound}
 use Rattle.job.proofs.JobFaultLaws.{job-fault}
 use borrow.Author.Needs.{needs}
-use borrow.Author.Tests.{ne-eqb}
 use Rattle.job.proofs.read_job.Statement.{statement}
 use Rattle.job.proofs.read_job.Tie as tie
 
@@ -92,18 +87,8 @@ returns-2 c =
     let before = lists (s .args .out-knots .now) (s .args .out-xs .now) (s .args .out-ys .now) in
     let found = c .before .found .given .0 .0 in
     let breaks = sym (c .before .before .before .job-layout .ensures) ∙ c .before .found .given .1 in
-    let fault = job-fault (s .args .bytes .now) (octetsIn (c .before .before .before .before .before)) found breaks in
-    let refused = fault-refuses jobs (s .args .bytes .now) fault in
-    record {
-      verdict = broken (found .number) (found .place);
-      m = 0;
-      c = before;
-      cs = [];
-      comesTo = isBroken fault 0 before [];
-      answers = refl;
-      hands = sym (handedOver-refused (found .number) before before refused);
-      clampsNow = rw (ne-eqb (found .number) 0 refused);
-    }
+    broken-read (s .args .bytes .now) before (s .args .clamps .now)
+    (job-fault (s .args .bytes .now) (octetsIn (c .before .before .before .before .before)) found breaks)
 
 pub read-job-spec : {M : Type 1} → statement M
 read-job-spec =

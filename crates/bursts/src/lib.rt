@@ -1,0 +1,1 @@
+// A job fed in bursts is read as all of them joined. There is nothing here that runs.
