@@ -14,22 +14,30 @@
 #include "plain.h"
 #include "tsaghnobir.h"
 
-enum { ROUNDS = 2000, DEGREE = 3, STEP = 6, PARAMETERS = 16, SIZES = 4, CLAMPS = 8, SPLITS = 6 };
+enum { ROUNDS = 2000, DEGREE = 3, STEP = 6, PARAMETERS = 16, SIZES = 4, CLAMPS = 8, SPLITS = 7 };
 
 enum call { CHECK, POINT, CARRYING, SPANS, INSERT, JOIN, WRITE, READ, COMPACT, FEED, CALLS, BURSTS };
 
 static const char *const names[CALLS] = {"check", "point", "carrying", "spans", "insert", "join", "write", "read", "compact", "feed"};
 static const size_t sizes[SIZES] = {4, 64, 256, 1024};
 
-/* How many bursts, and of how many bytes; the last may be shorter. */
+/* How many bursts, and of how many bytes; the last may be shorter. Each comes behind the ones before it, or each to the front of the list. */
 struct split {
     size_t bursts, size;
+    int to_front;
 };
 
-enum { ONE_BURST, OF_64, OF_16, OF_ONE, HALF_OF_ONE, EMPTY };
+enum { ONE_BURST, OF_64, OF_16, OF_ONE, HALF_OF_ONE, TO_FRONT, EMPTY };
 
 static const struct split splits[SPLITS] = {
-    {1, TSB_JOB_MOST}, {TSB_JOB_MOST / 64 + 1, 64}, {TSB_JOB_MOST / 16 + 1, 16}, {TSB_JOB_MOST, 1}, {TSB_JOB_MOST / 2, 1}, {TSB_JOB_MOST, 0}};
+    {1, TSB_JOB_MOST, 0},
+    {TSB_JOB_MOST / 64 + 1, 64, 0},
+    {TSB_JOB_MOST / 16 + 1, 16, 0},
+    {TSB_JOB_MOST, 1, 0},
+    {TSB_JOB_MOST / 2, 1, 0},
+    {TSB_JOB_MOST, 1, 1},
+    {TSB_JOB_MOST, 0, 0},
+};
 
 struct input {
     size_t points, inserted_points, spline_points, length;
@@ -90,6 +98,8 @@ static struct output by_library, by_plain;
             size_t count = TSB_JOB_MOST - at < in.split.size ? TSB_JOB_MOST - at : in.split.size;                           \
             refusal |= side##_feed(in.bytes + at, count, out->work, in.work_length, &out->received);                        \
             at += count;                                                                                                    \
+            if (in.split.to_front)                                                                                          \
+                out->received = 0;                                                                                          \
         }                                                                                                                   \
         return refusal;                                                                                                     \
     }
@@ -252,7 +262,7 @@ static int agree_on_long(void)
         for (size_t j = 0; j < sizeof lengths / sizeof lengths[0]; j++) {
             in.received = counts[k];
             in.job_length = lengths[j];
-            in.split = (struct split){1, lengths[j]};
+            in.split = (struct split){1, lengths[j], 0};
             same &= agree_on_one(FEED) & agree_on_one(BURSTS);
             in.work_length--;
             same &= agree_on_one(FEED) & agree_on_one(BURSTS);
@@ -302,11 +312,14 @@ static void measure(enum call call, double *library, double *plain)
     *plain /= (double)times;
 }
 
-/* Bursts of one byte: against half as many, twice, and against the one burst, twice, with as many empty ones. */
+/* All bursts of one byte: against half of them, twice; against the one burst, twice, and as many calls: of one byte each to the front, or empty ones. */
 static void print_growth(const char *side, const double *times)
 {
-    double halves = 2 * times[HALF_OF_ONE], copy_and_calls = 2 * times[ONE_BURST] + times[EMPTY];
-    printf("%-15sx%.2f of twice half of them, x%.2f of twice the one burst and the empty ones\n", side, times[OF_ONE] / halves, times[OF_ONE] / copy_and_calls);
+    double all = times[OF_ONE], copy = 2 * times[ONE_BURST];
+    printf("%-15s", side);
+    printf("x%.2f of twice half of them, ", all / (2 * times[HALF_OF_ONE]));
+    printf("x%.2f of twice the one burst and as many to the front, ", all / (copy + times[TO_FRONT]));
+    printf("x%.2f of twice the one burst and as many empty ones\n", all / (copy + times[EMPTY]));
 }
 
 /* Feeding in bursts; 0 where the two sides differ. */
@@ -325,7 +338,7 @@ static int print_bursts(void)
         measure(BURSTS, &library[k], &plain[k]);
         double bursts = (double)in.split.bursts;
         printf("%7u%8u%11.1f /%8.1f (%4.2f)", (unsigned)in.split.bursts, (unsigned)in.split.size, library[k], plain[k], library[k] / plain[k]);
-        printf("%11.2f /%8.2f\n", library[k] / bursts, plain[k] / bursts);
+        printf("%11.2f /%8.2f%s\n", library[k] / bursts, plain[k] / bursts, in.split.to_front ? "   each to the front" : "");
     }
     printf("%u bursts of one byte\n", (unsigned)TSB_JOB_MOST);
     print_growth("proved library", library);
