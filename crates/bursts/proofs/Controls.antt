@@ -1,6 +1,6 @@
 -- Closed cases of the promise: nothing but empty bursts; the worked job (heading "Worked by hand") in three bursts, one of them empty; and a byte behind
 -- a job that fills the list.
-use mathlib.Core.List.{List, [], _∷_, _++_}
+use mathlib.Core.List.{List, [], _∷_}
 use mathlib.Core.Path.{_≡_, refl, subst}
 use Prim.Native.Nat.{ℕ, _≤_}
 use native.Mathlib.Omega.{arith}

@@ -1,6 +1,6 @@
 -- Any bursts are held joined, so the end reads them so; and the end has one outcome.
 use mathlib.Core.List.{List, [], _∷_, _++_, append-assoc, append-nil}
-use mathlib.Core.Path.{_≡_, refl, sym, ap, _∙_, subst}
+use mathlib.Core.Path.{_≡_, refl, sym, _∙_, subst}
 use Prim.Native.Nat.{ℕ, _≤_}
 use native.Mathlib.Omega.{arith}
 use lib.IntN.{ℤ}
@@ -9,7 +9,6 @@ use Rattle.grid.specs.Limits.{jobMost}
 use Rattle.curve.specs.Lists.{Lists}
 use Rattle.lent.specs.Lent.{over}
 use Rattle.job.specs.JobReading.{JobRead}
-use Rattle.job.specs.declared.JobAnswer.{JobAnswer}
 use Rattle.feed.specs.Burst.{fresh, keptWith, receivedWith}
 use Rattle.feed.specs.Ending.{Holds, whole, FeedEnds, short, told}
 use Rattle.bursts.specs.Bursts.{fedAll, joined, FedReadsAsJoined, FedIsHeld}

@@ -1,5 +1,5 @@
 -- The end has one outcome: some bytes are held, and reading them has one.
-use mathlib.Core.Path.{_≡_, refl, ap}
+use mathlib.Core.Path.{refl, ap}
 use native.Mathlib.Omega.{arith}
 use Rattle.job.specs.declared.JobAnswer.{JobAnswer}
 use Rattle.round_trip.proofs.JobTrip.{job-reading-determined}

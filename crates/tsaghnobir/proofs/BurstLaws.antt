@@ -1,6 +1,6 @@
 -- The exports over feeding a burst, what each arm of its match knows, and over the end, which places what reading answers.
 use mathlib.Core.List.{List}
-use mathlib.Core.Path.{_≡_, sym, ap, _∙_}
+use mathlib.Core.Path.{_≡_, sym, ap}
 use Prim.Native.Nat.{ℕ}
 use lib.IntN.{ℤ}
 use Rattle.curve.specs.Lists.{Lists}

@@ -1,7 +1,6 @@
 -- 15 for a short work list, or what keeping the burst leaves.
 use mathlib.Core.Path.{ap, _∙_}
 use borrow.Author.Needs.{needs}
-use Rattle.feed.specs.declared.Feed.{Feed}
 use Rattle.feed.specs.declared.BurstAnswer.the-variants.{Fed}
 use Rattle.feed.proofs.BurstLaws.{burst-refused, burst-taken}
 use Rattle.feed.proofs.feed_burst.Statement.{statement}

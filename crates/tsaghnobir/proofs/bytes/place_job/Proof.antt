@@ -1,7 +1,4 @@
 -- Each arm places what its answer holds.
-use mathlib.Core.Path.{sym, ap, refl}
-use Rattle.job.specs.declared.JobAnswer.{JobAnswer}
-use Rattle.tsaghnobir.specs.Answered.{jobPlaced}
 use Rattle.tsaghnobir.proofs.bytes.place_job.Statement.{statement}
 use Rattle.tsaghnobir.proofs.bytes.place_job.Tie as tie
 

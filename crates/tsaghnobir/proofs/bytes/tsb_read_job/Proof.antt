@@ -1,5 +1,5 @@
 -- `tsaghnobir::tsb_read_job` meets its contract: what reading answers is placed.
-use mathlib.Core.Path.{sym, ap}
+use mathlib.Core.Path.{ap}
 use Rattle.tsaghnobir.proofs.ReadingLaws.{job-placed}
 use Rattle.tsaghnobir.proofs.bytes.tsb_read_job.Statement.{statement}
 use Rattle.tsaghnobir.proofs.bytes.tsb_read_job.Tie as tie
