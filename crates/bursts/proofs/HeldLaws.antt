@@ -8,9 +8,9 @@ use lib.ListN.{length, getD, take, drop, length-append, take-append-drop}
 use lib.Seq.{take-all, drop-cons, length-take-le}
 use Rattle.lent.specs.Lent.{over}
 use Rattle.lent.proofs.OverLaws.{over-whole, over-result}
-use Rattle.feed.specs.Burst.{keptWith, receivedWith}
+use Rattle.keeping.specs.Kept.{keptWith, receivedWith}
 use Rattle.feed.specs.Ending.{Holds, whole, beyond}
-use Rattle.feed.proofs.BurstLaws.{kept-full, kept-parts, kept-length, counted-full, counted-over, counted-all}
+use Rattle.keeping.proofs.KeptLaws.{kept-full, kept-parts, kept-length, counted-full, counted-over, counted-all}
 
 module _ (received : ℕ) (burst work : List ℕ) where
   abbrev list : List ℕ

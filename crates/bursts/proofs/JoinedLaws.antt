@@ -9,12 +9,14 @@ use Rattle.grid.specs.Limits.{jobMost}
 use Rattle.curve.specs.Lists.{Lists}
 use Rattle.lent.specs.Lent.{over}
 use Rattle.job.specs.JobReading.{JobRead}
-use Rattle.feed.specs.Burst.{fresh, keptWith, receivedWith}
+use Rattle.keeping.specs.Kept.{keptWith, receivedWith}
+use Rattle.keeping.proofs.KeptLaws.{kept-length}
+use Rattle.feed.specs.Burst.{fresh}
 use Rattle.feed.specs.Ending.{Holds, whole, FeedEnds, short, told}
 use Rattle.bursts.specs.Bursts.{fedAll, joined, FedReadsAsJoined, FedIsHeld}
 use Rattle.feed.specs.declared.Feed.{Feed}
 use Rattle.feed.specs.declared.EndAnswer.{EndAnswer}
-use Rattle.feed.proofs.BurstLaws.{kept-length, burst-taken}
+use Rattle.feed.proofs.BurstLaws.{burst-taken}
 use Rattle.bursts.proofs.HeldLaws.{burst-held}
 
 -- a burst that is taken, in front of others

@@ -4,10 +4,9 @@ use job::Judged;
 ghost use mathlib.Core.Path.{_≡_};
 ghost use Prim.Native.Nat.{_≤_};
 ghost use lib.ListN.{length};
-ghost use Rattle.lent.specs.Lent.{over};
 ghost use Rattle.grid.specs.Limits.{jobMost};
 ghost use Rattle.curve.specs.Lists.{lists};
-ghost use Rattle.feed.specs.Burst.{keptWith, receivedWith, burstAnswer, workAfter};
+ghost use Rattle.feed.specs.Burst.{burstAnswer, workAfter};
 ghost use Rattle.feed.specs.Ending.{ReadsHeld, FeedEnds};
 
 // What is kept between the calls beside the work list: how many bytes were received, 0 before the first burst.
@@ -35,24 +34,8 @@ pub fn feed_burst(state: Feed, burst: &[u8], work: &mut [u8]) -> BurstAnswer
     if work.len() < grid::JOB_MOST {
         return BurstAnswer::Refused(refusal::ROOM);
     }
-    let received = keep(state.received, burst, work);
+    let received = keeping::keep(state.received, burst, work);
     BurstAnswer::Fed(Feed { received })
-}
-
-// Keeps the burst behind the bytes received, as far as it fits, and counts it.
-fn keep(received: usize, burst: &[u8], work: &mut [u8]) -> usize
-    ensures count { λ r. ⌜ r ≡ receivedWith received (now (burst .entry)) (now (work .entry)) ⌝ }
-    ensures result { λ _. ⌜ now (work .exit) ≡ over (keptWith received (now (burst .entry)) (now (work .entry))) (now (work .entry)) ⌝ }
-{
-    let places = work.len();
-    if received > places {
-        return received;
-    }
-    copying::copy_bytes(burst, &mut work[received..]);
-    if burst.len() > places - received {
-        return places + 1;
-    }
-    received + burst.len()
 }
 
 // Told the end: reads all that was received.

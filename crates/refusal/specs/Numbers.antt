@@ -46,7 +46,7 @@ notRemovableRefused = 13
 abbrev pub rectangleRefused : ℕ  -- a rectangle with crossed sides, or off the grid
 rectangleRefused = 14
 
-abbrev pub roomRefused : ℕ  -- a lent result list that is too short
+abbrev pub roomRefused : ℕ  -- a lent list that is too short, for a result or to work in
 roomRefused = 15
 
 abbrev pub endedRefused : ℕ  -- bytes that end before a record, or a job, is whole

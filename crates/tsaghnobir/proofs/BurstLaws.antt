@@ -5,7 +5,8 @@ use Prim.Native.Nat.{ℕ}
 use lib.IntN.{ℤ}
 use Rattle.curve.specs.Lists.{Lists}
 use Rattle.lent.specs.Lent.{after}
-use Rattle.feed.specs.Burst.{keptWith, receivedWith, workNumber, burstAnswer, workAfter}
+use Rattle.keeping.specs.Kept.{keptWith, receivedWith}
+use Rattle.feed.specs.Burst.{workNumber, burstAnswer, workAfter}
 use Rattle.feed.specs.declared.Feed.{Feed}
 use Rattle.feed.specs.declared.BurstAnswer.{BurstAnswer}
 use Rattle.feed.specs.declared.BurstAnswer.the-variants.{Fed, Refused}

@@ -5,7 +5,8 @@ use feed::Feed;
 ghost use mathlib.Core.Path.{_≡_};
 ghost use Rattle.lent.specs.Lent.{after};
 ghost use Rattle.curve.specs.Lists.{lists};
-ghost use Rattle.feed.specs.Burst.{keptWith, receivedWith, workNumber};
+ghost use Rattle.keeping.specs.Kept.{keptWith, receivedWith};
+ghost use Rattle.feed.specs.Burst.{workNumber};
 ghost use Rattle.tsaghnobir.specs.Places.{placed};
 ghost use Rattle.tsaghnobir.specs.Outcomes.{FeedHandsBack};
 

@@ -1,8 +1,8 @@
 -- The list is full already, or the burst is copied behind the bytes received; the count stops one past the list.
 use borrow.Author.Needs.{needs}
-use Rattle.feed.proofs.BurstLaws.{kept-full, kept-behind, counted-full, counted-over, counted-all}
-use Rattle.feed.proofs.keep.Statement.{statement}
-use Rattle.feed.proofs.keep.Tie as tie
+use Rattle.keeping.proofs.KeptLaws.{kept-full, kept-behind, counted-full, counted-over, counted-all}
+use Rattle.keeping.proofs.keep.Statement.{statement}
+use Rattle.keeping.proofs.keep.Tie as tie
 
 returns : tie.Need-returns
 returns c =

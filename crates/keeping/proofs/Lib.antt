@@ -1,0 +1,4 @@
+-- Laws of keeping a burst.
+pub mod KeptLaws
+pub mod SentenceLaws
+pub mod Controls
