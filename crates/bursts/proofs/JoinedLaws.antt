@@ -20,7 +20,7 @@ use Rattle.feed.proofs.BurstLaws.{burst-taken}
 use Rattle.bursts.proofs.HeldLaws.{burst-held}
 
 -- a burst that is taken, in front of others
-one-more : (state : Feed) (burst work : List ℕ) (bursts : List (List ℕ)) → jobMost ≤ length work
+pub one-more : (state : Feed) (burst work : List ℕ) (bursts : List (List ℕ)) → jobMost ≤ length work
     → fedAll state work (burst ∷ bursts)
     ≡ fedAll (record { received = receivedWith (state .received) burst work }) (over (keptWith (state .received) burst work) work) bursts
 one-more state burst work bursts long =

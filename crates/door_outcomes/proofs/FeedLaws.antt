@@ -1,18 +1,22 @@
 -- The export at the end of a job in bursts: it hands back what reading a job does for all bursts joined, and has one outcome.
-use mathlib.Core.List.{List}
+use mathlib.Core.List.{List, [], _∷_}
 use mathlib.Core.Path.{_≡_, refl, ap₂}
 use Prim.Native.Nat.{ℕ, _≤_}
 use native.Mathlib.Omega.{arith}
 use lib.IntN.{ℤ}
 use lib.ListN.{length}
+use borrow.Author.Tests.{le-leb}
+use Rattle.lent.specs.Lent.{over}
 use Rattle.curve.specs.Lists.{Lists}
 use Rattle.grid.specs.Limits.{jobMost}
+use Rattle.keeping.specs.Kept.{keptWith, receivedWith}
+use Rattle.keeping.proofs.KeptLaws.{kept-length}
 use Rattle.feed.specs.Ending.{Holds}
-use Rattle.bursts.specs.Bursts.{joined}
+use Rattle.bursts.specs.Bursts.{fedAll, joined}
 use Rattle.bursts.proofs.HeldLaws.{some-held}
-use Rattle.bursts.proofs.JoinedLaws.{fed-is-held}
+use Rattle.bursts.proofs.JoinedLaws.{one-more, fed-is-held}
 use Rattle.tsaghnobir.specs.Outcomes.{JobHandsBack, FeedHandsBack, short, told}
-use Rattle.door_outcomes.specs.Exports.{FeedEndDetermined, FedHandsBackAsJoined}
+use Rattle.door_outcomes.specs.Exports.{fedByExport, FeedEndDetermined, FedHandsBackAsJoined}
 use Rattle.door_outcomes.proofs.OutcomeLaws.{job-determined}
 
 module _ {received : ℕ} {work : List ℕ} {before : Lists} {sidesBefore : List ℤ} {held : ℕ × ℕ × ℕ × ℕ} where
@@ -37,7 +41,15 @@ module _ {received : ℕ} {work : List ℕ} {before : Lists} {sidesBefore : List
 pub feed-end-determined : FeedEndDetermined
 feed-end-determined received work before sidesBefore held n k (now, sides) (then, sidesThen) (holds, count) (instead, recount) p q = one-end p q
 
+-- through C the same bytes are held
+same-fed : (received : ℕ) (work : List ℕ) (bursts : List (List ℕ)) → jobMost ≤ length work
+    → let fed = fedAll (record { received = received }) work bursts in fedByExport received work bursts ≡ (fed .0 .received, fed .1)
+same-fed received work [] long = refl
+same-fed received work (burst ∷ bursts) long =
+    rw (le-leb jobMost (length work) long, one-more (record { received = received }) burst work bursts long)
+    (same-fed (receivedWith received burst work) (over (keptWith received burst work) work) bursts (omega (arith, kept-length received burst work)))
+
 pub fed-hands-back-as-joined : FedHandsBackAsJoined
 fed-hands-back-as-joined work long bursts before sidesBefore held number now sidesNow holds received ends =
     let fed = fed-is-held work long bursts in
-    end-handed (omega (arith, fed .1)) ends (joined bursts) (fed .0)
+    end-handed (omega (arith, fed .1)) (rw (same-fed 0 work bursts long) at ends) (joined bursts) (fed .0)

@@ -1,7 +1,7 @@
 -- What the contracts of the exports to C settle, in their own words (headings "How much each contract says", "The point at a parameter", "Jobs in bursts"): an export by cases
 -- has one outcome, a place is told with a fault and with nothing else, and the index that `tsb_carrying` hands back finds the coordinates that the carrying call hands back.
 use mathlib.Core.Bool.{Bool, true, false, _||_}
-use mathlib.Core.List.{List}
+use mathlib.Core.List.{List, [], _∷_}
 use mathlib.Core.Path.{_≡_}
 use Prim.Native.Nat.{ℕ, _+_, _<_, _≤_}
 use lib.Dec.{eqb}
@@ -13,9 +13,11 @@ use Rattle.fault.specs.Fault.{FileKind, Fault}
 use Rattle.fault.specs.Kinds.{loneRecords}
 use Rattle.job.specs.JobFormat.{jobs}
 use Rattle.grid.specs.Limits.{jobMost}
-use Rattle.feed.specs.Burst.{fresh}
+use Rattle.lent.specs.Lent.{after}
+use Rattle.keeping.specs.Kept.{keptWith, receivedWith}
+use Rattle.feed.specs.Burst.{workNumber}
 use Rattle.feed.specs.Ending.{Holds}
-use Rattle.bursts.specs.Bursts.{fedAll, joined}
+use Rattle.bursts.specs.Bursts.{joined}
 use Rattle.domain.specs.Parameter.{parameterNumber}
 use Rattle.carrying.specs.Carrying.{onAxis, partOf}
 use Rattle.carrying.specs.declared.Axis.{Axis}
@@ -52,12 +54,18 @@ FeedEndDetermined =
     (λ (number : ℕ) (now : Lists × List ℤ) (holds : (ℕ × ℕ × ℕ × ℕ) × ℕ).
     FeedHandsBack received work before sidesBefore held number (now .0) (now .1) (holds .0) (holds .1))
 
+-- count and work list after bursts, each left by `tsb_feed` and handed on unaltered
+abbrev pub fedByExport : ℕ → List ℕ → List (List ℕ) → ℕ × List ℕ
+fedByExport received work [] = (received, work)
+fedByExport received work (burst ∷ bursts) =
+    fedByExport (placed (workNumber work) (receivedWith received burst work) received) (after (workNumber work) (keptWith received burst work) work) bursts
+
 -- bursts fed from a count of 0 on, and then the end: what reading a job hands back for all of them joined, and a count of 0 again
 abbrev pub FedHandsBackAsJoined : Type 0
 FedHandsBackAsJoined =
     (work : List ℕ) → jobMost ≤ length work → (bursts : List (List ℕ)) (before : Lists) (sidesBefore : List ℤ) (held : ℕ × ℕ × ℕ × ℕ)
     (number : ℕ) (now : Lists) (sidesNow : List ℤ) (holds : ℕ × ℕ × ℕ × ℕ) (received : ℕ)
-    → FeedHandsBack (fedAll fresh work bursts .0 .received) (fedAll fresh work bursts .1) before sidesBefore held number now sidesNow holds received
+    → FeedHandsBack (fedByExport 0 work bursts .0) (fedByExport 0 work bursts .1) before sidesBefore held number now sidesNow holds received
     → JobHandsBack (joined bursts) before sidesBefore held number now sidesNow holds × (received ≡ 0)
 
 -- 16 and 19 to 21 are told with a place
