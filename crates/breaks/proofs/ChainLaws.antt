@@ -18,8 +18,9 @@ use Rattle.format.proofs.SizeLaws.{length-knots, length-coordinates}
 use Rattle.fault.specs.Fault.{FileKind}
 use Rattle.fault.proofs.FirstFieldLaws.{FieldThen, octets-each}
 use Rattle.fault.proofs.ChainLaws.{needed}
-use Rattle.layout.specs.Judging.{lengthOk, degreeRule, knotsRule, xRule, yRule}
-use Rattle.layout.specs.declared.Rule.{Rule}
+use Rattle.taken_field.specs.Taking.{lengthOk}
+use Rattle.layout.specs.Judging.{degreeRule, knotsRule, xRule, yRule}
+use Rattle.taken_field.specs.declared.Rule.{Rule}
 use Rattle.layout.proofs.SplitLaws.{length-least, length-most, length-whole, length-right}
 
 -- a field by its rule, and then a file of the next kind

@@ -6,7 +6,8 @@ use Rattle.fault.specs.Fault.{Fault}
 use Rattle.fault.specs.Kinds.{loneRecords}
 use Rattle.fault.specs.Verdict.{judged, broken, numberOf, placeOr}
 use Rattle.fault.proofs.FirstFieldLaws.{octets-by}
-use Rattle.layout.specs.Judging.{endedAt, tagAt, lengthAt, leftOverAt, lengthOk, fieldAt, recordLayout, wholeRecord}
+use Rattle.taken_field.specs.Taking.{endedAt, tagAt, lengthAt, leftOverAt, lengthOk, fieldAt}
+use Rattle.layout.specs.Judging.{recordLayout, wholeRecord}
 use Rattle.breaks.proofs.LoneLaws.{record-fault}
 
 -- nothing at all

@@ -18,11 +18,12 @@ use Rattle.fault.specs.Fault.{FileKind, Fault}
 use Rattle.fault.proofs.FirstFieldLaws.{FirstField}
 use Rattle.fault.proofs.FieldFaultLaws.{at-place, fault-tag, fault-tag-alone, fault-in-length, fault-length, fault-short, fault-behind}
 use Rattle.fault.proofs.ChainLaws.{Some, needed-first, needed-some, needed-none}
-use Rattle.layout.specs.Judging.{endedAt, tagAt, lengthAt, lengthOk, fieldAt, thenField, degreeRule, knotsRule, xRule, yRule, fromKnots, fromX, fromY, recordLayout}
-use Rattle.layout.specs.declared.Rule.{Rule}
-use Rattle.layout.specs.declared.Break.{Break}
-use Rattle.layout.specs.declared.Taken.{Taken}
-use Rattle.layout.specs.declared.Taken.the-variants.{Field, Broken}
+use Rattle.taken_field.specs.Taking.{endedAt, tagAt, lengthAt, lengthOk, fieldAt}
+use Rattle.layout.specs.Judging.{thenField, degreeRule, knotsRule, xRule, yRule, fromKnots, fromX, fromY, recordLayout}
+use Rattle.taken_field.specs.declared.Rule.{Rule}
+use Rattle.taken_field.specs.declared.Break.{Break}
+use Rattle.taken_field.specs.declared.Taken.{Taken}
+use Rattle.taken_field.specs.declared.Taken.the-variants.{Field, Broken}
 use Rattle.layout.specs.declared.Layout.{Layout}
 use Rattle.layout.specs.declared.Layout.the-variants.{Sound, Broken as Unsound}
 use Rattle.layout.proofs.SplitLaws.{Whole, broken-field, three-ahead, field-known, field-split, broken-layout, layout-known, length-least, length-most, length-right}

@@ -20,8 +20,9 @@ use Rattle.fault.specs.Kinds.{loneRecords}
 use Rattle.fault.proofs.OneFaultLaws.{one-fault, file-no-fault}
 use Rattle.fault.proofs.LeftOverLaws.{left-over-there}
 use Rattle.fault.proofs.ChainLaws.{SameKind, fault-same, then-fields, upTo, upTo-some, fault-left-over, row-fields}
-use Rattle.layout.specs.Judging.{leftOverAt, lengthOk, yRule, recordLayout, alone, wholeRecord}
-use Rattle.layout.specs.declared.Break.{Break}
+use Rattle.taken_field.specs.Taking.{leftOverAt, lengthOk}
+use Rattle.layout.specs.Judging.{yRule, recordLayout, alone, wholeRecord}
+use Rattle.taken_field.specs.declared.Break.{Break}
 use Rattle.layout.specs.declared.Layout.{Layout}
 use Rattle.layout.specs.declared.Layout.the-variants.{Sound, Broken as Unsound}
 use Rattle.layout.proofs.SplitLaws.{broken-layout}

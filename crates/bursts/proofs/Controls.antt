@@ -13,7 +13,8 @@ use Rattle.grid.specs.Rows.{degreeOk, pointCountOk, knotCountOk, risesFrom, kno
 use Rattle.grid.specs.Check.{checkedThen}
 use Rattle.format.specs.Format.{form1, recordBytes}
 use Rattle.format.proofs.Controls.{curveA}
-use Rattle.layout.specs.Judging.{endedAt, lengthOk, fieldAt, recordLayout}
+use Rattle.taken_field.specs.Taking.{endedAt, lengthOk, fieldAt}
+use Rattle.layout.specs.Judging.{recordLayout}
 use Rattle.clamps.specs.Clamp.{allSides, clampsOk}
 use Rattle.clamps.specs.Tail.{clampsFrom}
 use Rattle.fault.specs.Verdict.{judged}

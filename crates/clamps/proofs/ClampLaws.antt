@@ -16,10 +16,10 @@ use Rattle.fields.specs.Bytes.{fieldBytes, coordinateBytes, Octets}
 use Rattle.fields.specs.Places.{i32At}
 use Rattle.format.proofs.EntryLaws.{coordinates-exact, bits-fit, entries-all}
 use Rattle.format.proofs.InjectiveLaws.{field-injective, coordinates-injective, each-injective}
-use Rattle.layout.specs.Judging.{leftOverAt, fieldAt}
-use Rattle.layout.specs.declared.Break.{Break}
-use Rattle.layout.specs.declared.Taken.{Taken}
-use Rattle.layout.specs.declared.Taken.the-variants.{Field, Broken as Untaken}
+use Rattle.taken_field.specs.Taking.{leftOverAt, fieldAt}
+use Rattle.taken_field.specs.declared.Break.{Break}
+use Rattle.taken_field.specs.declared.Taken.{Taken}
+use Rattle.taken_field.specs.declared.Taken.the-variants.{Field, Broken as Untaken}
 use Rattle.layout.proofs.SplitLaws.{Whole, field-known, field-split, length-least, length-most}
 use Rattle.clamps.specs.Clamp.{clampSides, sideBytes, clampFieldBytes, Clamp, ClampFits, noClamp, sides, clampTag, clampField, clampFields, clampAt, clampsAt}
 use Rattle.clamps.specs.Tail.{clampRule, thenClamps, clampsFrom}

@@ -6,7 +6,7 @@ use Prim.Native.Nat.{ℕ}
 use lib.IntN.{pos, negsuc}
 use lib.ListN.{replicate}
 use Rattle.grid.specs.Rows.{onGrid, axisOk, rectangleOk}
-use Rattle.layout.specs.Judging.{tagAt, leftOverAt, lengthOk, fieldAt}
+use Rattle.taken_field.specs.Taking.{tagAt, leftOverAt, lengthOk, fieldAt}
 use Rattle.clamps.specs.Clamp.{Clamp, allSides, clampFields, clampsAt, clampsOk}
 use Rattle.clamps.specs.Tail.{clampsFrom, clampsBehind}
 use Rattle.clamps.specs.declared.Tail.the-variants.{Clamps, Broken}

@@ -17,10 +17,10 @@ use Rattle.format.proofs.EntryLaws.{coordinates-exact, bits-fit}
 use Rattle.fault.specs.Fault.{FileKind, Fault}
 use Rattle.fault.proofs.FirstFieldLaws.{FirstField}
 use Rattle.fault.proofs.ChainLaws.{Row, upTo, upTo-first, fault-left-over}
-use Rattle.layout.specs.Judging.{leftOverAt, lengthOk, fieldAt}
-use Rattle.layout.specs.declared.Break.{Break}
-use Rattle.layout.specs.declared.Taken.{Taken}
-use Rattle.layout.specs.declared.Taken.the-variants.{Field, Broken as Untaken}
+use Rattle.taken_field.specs.Taking.{leftOverAt, lengthOk, fieldAt}
+use Rattle.taken_field.specs.declared.Break.{Break}
+use Rattle.taken_field.specs.declared.Taken.{Taken}
+use Rattle.taken_field.specs.declared.Taken.the-variants.{Field, Broken as Untaken}
 use Rattle.layout.proofs.SplitLaws.{Whole, field-known, length-least, length-most, length-right}
 use Rattle.breaks.proofs.ChainLaws.{octets-coordinates}
 use Rattle.breaks.proofs.FaultLaws.{BreaksFrom, field-breaks, break-behind}

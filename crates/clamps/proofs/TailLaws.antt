@@ -5,9 +5,9 @@ use Prim.Native.Nat.{ℕ, zero, suc, _+_, _<_, _≤_}
 use native.Mathlib.Omega.{arith}
 use lib.ListN.{length}
 use borrow.Author.Tests.{le-leb, lt-leb}
-use Rattle.layout.specs.Judging.{leftOverAt, fieldAt}
-use Rattle.layout.specs.declared.Break.{Break}
-use Rattle.layout.specs.declared.Taken.the-variants.{Field, Broken as Untaken}
+use Rattle.taken_field.specs.Taking.{leftOverAt, fieldAt}
+use Rattle.taken_field.specs.declared.Break.{Break}
+use Rattle.taken_field.specs.declared.Taken.the-variants.{Field, Broken as Untaken}
 use Rattle.layout.proofs.SplitLaws.{field-known, length-least}
 use Rattle.clamps.specs.Clamp.{clampFieldBytes}
 use Rattle.clamps.specs.Tail.{clampRule, clampsFrom}

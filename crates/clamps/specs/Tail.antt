@@ -5,10 +5,10 @@ use Prim.Native.Nat.{ℕ, zero, suc, _+_}
 use lib.Dec.{leb}
 use lib.ListN.{length}
 use Rattle.grid.specs.Limits.{clampBytes, clampsMost}
-use Rattle.layout.specs.Judging.{leftOverAt, fieldAt}
-use Rattle.layout.specs.declared.Rule.{Rule}
-use Rattle.layout.specs.declared.Taken.{Taken}
-use Rattle.layout.specs.declared.Taken.the-variants.{Field, Broken as Untaken}
+use Rattle.taken_field.specs.Taking.{leftOverAt, fieldAt}
+use Rattle.taken_field.specs.declared.Rule.{Rule}
+use Rattle.taken_field.specs.declared.Taken.{Taken}
+use Rattle.taken_field.specs.declared.Taken.the-variants.{Field, Broken as Untaken}
 use Rattle.clamps.specs.Clamp.{clampTag, clampFieldBytes}
 use Rattle.clamps.specs.declared.Tail.{Tail}
 use Rattle.clamps.specs.declared.Tail.the-variants.{Clamps, Broken}

@@ -1,7 +1,7 @@
 // The clamps behind a record: their fields' structure, row 14 for each, and their sides.
-use layout::Break;
-use layout::Rule;
-use layout::Taken;
+use taken_field::Break;
+use taken_field::Rule;
+use taken_field::Taken;
 ghost use mathlib.Core.Path.{_≡_};
 ghost use Prim.Native.Nat.{_+_, _*_, _≤_};
 ghost use lib.ListN.{length};
@@ -51,7 +51,7 @@ pub fn clamps_behind(bytes: &[u8], start: usize) -> Tail
                 place: at,
             });
         }
-        match layout::take_field(bytes, at, clamp_rule()) {
+        match taken_field::take_field(bytes, at, clamp_rule()) {
             Taken::Broken(fault) => {
                 return Tail::Broken(fault);
             }

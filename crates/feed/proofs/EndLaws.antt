@@ -7,7 +7,7 @@ use lib.ListN.{length, take}
 use Rattle.refusal.specs.Numbers.{leftOverRefused}
 use Rattle.grid.specs.Limits.{jobMost}
 use Rattle.curve.specs.Lists.{Lists}
-use Rattle.layout.specs.declared.Break.{Break}
+use Rattle.taken_field.specs.declared.Break.{Break}
 use Rattle.job.specs.JobReading.{JobJudged, sound, faulty, JobRead}
 use Rattle.job.specs.declared.JobAnswer.{JobAnswer}
 use Rattle.job.specs.declared.JobAnswer.the-variants.{Broken}

@@ -10,7 +10,8 @@ use Rattle.grid.specs.Rows.{degreeOk, pointCountOk, knotCountOk, risesFrom, kno
 use Rattle.grid.specs.Check.{checkedThen}
 use Rattle.format.specs.Format.{form1, recordBytes}
 use Rattle.format.proofs.Controls.{curveA, line}
-use Rattle.layout.specs.Judging.{endedAt, tagAt, lengthOk, fieldAt, recordLayout}
+use Rattle.taken_field.specs.Taking.{endedAt, tagAt, lengthOk, fieldAt}
+use Rattle.layout.specs.Judging.{recordLayout}
 use Rattle.fault.specs.Verdict.{judged, broken}
 use Rattle.clamps.specs.Clamp.{Clamp, clampsOk}
 use Rattle.clamps.specs.Tail.{clampsFrom}

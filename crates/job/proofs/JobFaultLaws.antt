@@ -20,8 +20,9 @@ use Rattle.fault.proofs.WithinLaws.{fault-most, fault-kept}
 use Rattle.fault.proofs.OneFaultLaws.{one-fault, file-no-fault}
 use Rattle.fault.proofs.LeftOverLaws.{left-over-there}
 use Rattle.fault.proofs.ChainLaws.{SameKind, fault-same, Row, upTo-some, row-fields}
-use Rattle.layout.specs.Judging.{lengthOk, recordLayout}
-use Rattle.layout.specs.declared.Break.{Break}
+use Rattle.taken_field.specs.Taking.{lengthOk}
+use Rattle.layout.specs.Judging.{recordLayout}
+use Rattle.taken_field.specs.declared.Break.{Break}
 use Rattle.layout.specs.declared.Layout.{Layout}
 use Rattle.layout.specs.declared.Layout.the-variants.{Sound as Curve, Broken as NoCurve}
 use Rattle.layout.proofs.SplitLaws.{layout-inside}

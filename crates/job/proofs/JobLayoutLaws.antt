@@ -11,7 +11,7 @@ use Rattle.format.specs.Format.{form1, recordBytes}
 use Rattle.format.specs.RecordPlaces.{recordEnd}
 use Rattle.layout.specs.Judging.{recordLayout}
 use Rattle.layout.specs.StoredCurve.{degreeIn, curveIn}
-use Rattle.layout.specs.declared.Break.{Break}
+use Rattle.taken_field.specs.declared.Break.{Break}
 use Rattle.layout.specs.declared.Layout.{Layout}
 use Rattle.layout.specs.declared.Layout.the-variants.{Sound as Curve, Broken as NoCurve}
 use Rattle.layout.proofs.SplitLaws.{layout-inside}

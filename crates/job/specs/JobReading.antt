@@ -17,7 +17,7 @@ use Rattle.clamps.specs.Clamp.{Clamp, allSides, clampsOk}
 use Rattle.fault.specs.Fault.{Fault}
 use Rattle.fault.specs.Verdict.{Verdict, judged, broken, numberOf}
 use Rattle.job.specs.JobFormat.{IsJob, jobs}
-use Rattle.layout.specs.declared.Break.{Break}
+use Rattle.taken_field.specs.declared.Break.{Break}
 use Rattle.job.specs.declared.Judged.{Judged}
 use Rattle.job.specs.declared.Judged.the-variants.{Sound, Broken as Faulty}
 use Rattle.job.specs.declared.JobAnswer.{JobAnswer}

@@ -2,8 +2,8 @@
 mod sound;
 
 use clamps::Tail;
-use layout::Break;
 use layout::Layout;
+use taken_field::Break;
 ghost use mathlib.Core.Path.{_≡_};
 ghost use Rattle.curve.specs.Lists.{lists};
 ghost use Rattle.job.specs.JobJudging.{jobLayout};

@@ -3,7 +3,8 @@ use mathlib.Core.Path.{_≡_, refl}
 use mathlib.Core.List.{[], _∷_, _++_}
 use lib.ListN.{take}
 use Rattle.format.proofs.Controls.{bytesA, line, lineBytes}
-use Rattle.layout.specs.Judging.{endedAt, tagAt, lengthAt, leftOverAt, lengthOk, fieldAt, recordLayout, wholeRecord}
+use Rattle.taken_field.specs.Taking.{endedAt, tagAt, lengthAt, leftOverAt, lengthOk, fieldAt}
+use Rattle.layout.specs.Judging.{recordLayout, wholeRecord}
 use Rattle.layout.specs.StoredCurve.{degreeIn, curveIn}
 use Rattle.layout.specs.declared.Layout.the-variants.{Sound, Broken}
 

@@ -15,7 +15,7 @@ use Rattle.format.proofs.InjectiveLaws.{record-grouped}
 use Rattle.format.proofs.SizeLaws.{length-knots, length-coordinates}
 use Rattle.layout.specs.StoredCurve.{degreeIn, curveIn}
 use Rattle.layout.specs.Judging.{degreeRule, knotsRule, xRule, yRule, recordLayout}
-use Rattle.layout.specs.declared.Rule.{Rule}
+use Rattle.taken_field.specs.declared.Rule.{Rule}
 use Rattle.layout.specs.declared.Layout.the-variants.{Sound}
 use Rattle.layout.proofs.SplitLaws.{Whole, Laid, layout-known, layout-within, field-split, length-whole}
 

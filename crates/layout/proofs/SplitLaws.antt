@@ -14,15 +14,16 @@ use Rattle.fields.specs.Places.{u16At}
 use Rattle.refusal.proofs.JudgingLaws.{both}
 use Rattle.grid.specs.Limits.{knotBytesMost, coordinateBytesMost}
 use Rattle.format.specs.RecordPlaces.{knotsField, xField, yField, recordEnd}
-use Rattle.layout.specs.Judging.{endedAt, tagAt, lengthAt, lengthOk, wholeEntries, fieldAt, thenField, degreeRule, knotsRule, xRule, yRule, fromKnots, fromX, fromY, recordLayout}
-use Rattle.layout.specs.declared.Rule.{Rule}
-use Rattle.layout.specs.declared.Break.{Break}
-use Rattle.layout.specs.declared.Taken.{Taken}
-use Rattle.layout.specs.declared.Taken.the-variants.{Field, Broken}
+use Rattle.taken_field.specs.Taking.{endedAt, tagAt, lengthAt, lengthOk, wholeEntries, fieldAt}
+use Rattle.layout.specs.Judging.{thenField, degreeRule, knotsRule, xRule, yRule, fromKnots, fromX, fromY, recordLayout}
+use Rattle.taken_field.specs.declared.Rule.{Rule}
+use Rattle.taken_field.specs.declared.Break.{Break}
+use Rattle.taken_field.specs.declared.Taken.{Taken}
+use Rattle.taken_field.specs.declared.Taken.the-variants.{Field, Broken}
 use Rattle.layout.specs.declared.Layout.{Layout}
 use Rattle.layout.specs.declared.Layout.the-variants.{Sound, Broken as Unsound}
 use Rattle.format.proofs.EntryLaws.{pair-low, pair-high}
-use Rattle.layout.proofs.TakeLaws.{length-entries}
+use Rattle.taken_field.proofs.TakeLaws.{length-entries}
 
 pub broken-field : (fault : Break) (len : ℕ) → Broken fault ≡ Field len → ⊥
 broken-field fault len e = let z : _≡_ {A = ℕ} 0 1 = cc in omega arith

@@ -11,8 +11,9 @@ use Rattle.fields.specs.Bytes.{Octets}
 use Rattle.format.specs.Format.{form1, recordBytes, Storable, IsRecord}
 use Rattle.format.specs.RecordPlaces.{recordEnd}
 use Rattle.layout.specs.StoredCurve.{degreeIn, curveIn}
-use Rattle.layout.specs.Judging.{leftOverAt, recordLayout, alone, wholeRecord}
-use Rattle.layout.specs.declared.Break.{Break}
+use Rattle.taken_field.specs.Taking.{leftOverAt}
+use Rattle.layout.specs.Judging.{recordLayout, alone, wholeRecord}
+use Rattle.taken_field.specs.declared.Break.{Break}
 use Rattle.layout.specs.declared.Layout.{Layout}
 use Rattle.layout.specs.declared.Layout.the-variants.{Sound, Broken as Unsound}
 use Rattle.layout.proofs.RecordLaws.{layout-storable, layout-record}

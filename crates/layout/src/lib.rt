@@ -1,90 +1,16 @@
 // Reads the structure of bytes, field by field from the left: sound, or the leftmost fault with its place.
+use taken_field::Break;
+use taken_field::Rule;
+use taken_field::Taken;
 ghost use mathlib.Core.Path.{_≡_};
 ghost use Prim.Native.Nat.{_≤_};
 ghost use Rattle.grid.specs.Limits.{knotBytesMost};
-ghost use Rattle.layout.specs.Judging.{lengthOk, fieldAt, fromX, recordLayout, wholeRecord};
-
-// What a field must be: its tag, its least and largest length, and the width of an entry.
-pub struct Rule {
-    pub tag: u8,
-    pub least: usize,
-    pub most: usize,
-    pub width: usize,
-}
-
-// Where bytes break: the number of refusal and the place. The place is the input's length, a tag's, that of a length's first byte, or of a byte left over.
-pub struct Break {
-    pub number: u32,
-    pub place: usize,
-}
-
-// A field that was taken: the length of its contents. Or why there is none.
-pub enum Taken {
-    Field(usize),
-    Broken(Break),
-}
+ghost use Rattle.layout.specs.Judging.{fromX, recordLayout, wholeRecord};
 
 // The lengths of a record's fields of knots, x and y. Or why there is no record.
 pub enum Layout {
     Sound { knots: usize, xs: usize, ys: usize },
     Broken(Break),
-}
-
-// A length within the rule, of whole entries.
-pub fn length_ok(rule: Rule, len: usize) -> bool
-    ensures answer { λ r. ⌜ r ≡ lengthOk rule len ⌝ }
-{
-    let width = rule.width;
-    if len < rule.least {
-        return false;
-    }
-    if rule.most < len {
-        return false;
-    }
-    if width == 0 {
-        return false;
-    }
-    len % width == 0
-}
-
-// Judges the field that begins at `at`: its tag, then its length, then its contents.
-pub fn take_field(bytes: &[u8], at: usize, rule: Rule) -> Taken
-    ensures answer { λ r. ⌜ r ≡ fieldAt rule (now (bytes .entry)) at ⌝ }
-{
-    let len = bytes.len();
-    if len <= at {
-        return Taken::Broken(Break {
-            number: refusal::ENDED,
-            place: len,
-        });
-    }
-    let tag = bytes[at];
-    if tag != rule.tag {
-        return Taken::Broken(Break {
-            number: refusal::TAG,
-            place: at,
-        });
-    }
-    if len < at + grid::HEAD_BYTES {
-        return Taken::Broken(Break {
-            number: refusal::ENDED,
-            place: len,
-        });
-    }
-    let size = fields::get_u16(bytes, at + 1) as usize;
-    if !length_ok(rule, size) {
-        return Taken::Broken(Break {
-            number: refusal::LENGTH,
-            place: at + 1,
-        });
-    }
-    if len < at + grid::HEAD_BYTES + size {
-        return Taken::Broken(Break {
-            number: refusal::ENDED,
-            place: len,
-        });
-    }
-    Taken::Field(size)
 }
 
 // The fields of x and y, behind knots of `knots` bytes.
@@ -104,8 +30,12 @@ fn from_x(bytes: &[u8], knots: usize) -> Layout
         most: grid::COORDINATE_BYTES_MOST,
         width: 4,
     };
-    match take_field(bytes, format::BEFORE_KNOTS + knots, x_rule) {
-        Taken::Field(xs) => match take_field(bytes, format::BEFORE_X + knots + xs, y_rule) {
+    match taken_field::take_field(bytes, format::BEFORE_KNOTS + knots, x_rule) {
+        Taken::Field(xs) => match taken_field::take_field(
+            bytes,
+            format::BEFORE_X + knots + xs,
+            y_rule,
+        ) {
             Taken::Field(ys) => Layout::Sound { knots, xs, ys },
             Taken::Broken(fault) => Layout::Broken(fault),
         },
@@ -129,8 +59,8 @@ pub fn record_layout(bytes: &[u8]) -> Layout
         most: grid::KNOT_BYTES_MOST,
         width: 2,
     };
-    match take_field(bytes, 0, degree_rule) {
-        Taken::Field(_) => match take_field(bytes, format::KNOTS_FIELD, knots_rule) {
+    match taken_field::take_field(bytes, 0, degree_rule) {
+        Taken::Field(_) => match taken_field::take_field(bytes, format::KNOTS_FIELD, knots_rule) {
             Taken::Field(knots) => from_x(bytes, knots),
             Taken::Broken(fault) => Layout::Broken(fault),
         },

@@ -2,8 +2,8 @@
 use mathlib.Core.Path.{_≡_, refl, sym, _∙_}
 use Prim.Native.Nat.{_+_, _-_, _≤_}
 use Rattle.grid.specs.Limits.{clampsMost}
-use Rattle.layout.specs.Judging.{fieldAt}
-use Rattle.layout.specs.declared.Taken.the-variants.{Field, Broken as Untaken}
+use Rattle.taken_field.specs.Taking.{fieldAt}
+use Rattle.taken_field.specs.declared.Taken.the-variants.{Field, Broken as Untaken}
 use Rattle.clamps.specs.Tail.{clampRule, clampsFrom, clampsBehind}
 use Rattle.clamps.proofs.TailLaws.{clamp-inside, tail-done, tail-full, tail-broken, tail-next}
 use borrow.Author.Needs.{needs}

@@ -2,8 +2,9 @@
 use mathlib.Core.Path.{_≡_, sym, _∙_}
 use native.Mathlib.Omega.{arith}
 use Rattle.format.specs.RecordPlaces.{xField}
-use Rattle.layout.specs.Judging.{fieldAt, xRule}
-use Rattle.layout.specs.declared.Taken.the-variants.{Field}
+use Rattle.taken_field.specs.Taking.{fieldAt}
+use Rattle.layout.specs.Judging.{xRule}
+use Rattle.taken_field.specs.declared.Taken.the-variants.{Field}
 use Rattle.layout.proofs.SplitLaws.{field-most}
 use borrow.Author.Needs.{needs}
 use Rattle.layout.proofs.from_x.Statement.{statement}

@@ -1,13 +1,13 @@
 -- Each way out is one of the ways of judging.
 use mathlib.Core.Path.{sym, ap, _∙_}
 use native.Mathlib.Omega.{arith}
-use Rattle.layout.specs.Judging.{lengthOk}
-use Rattle.layout.specs.declared.Taken.the-variants.{Field}
-use Rattle.layout.proofs.TakeLaws.{field-none, field-tag, field-headless, field-length, field-short, field-whole}
+use Rattle.taken_field.specs.Taking.{lengthOk}
+use Rattle.taken_field.specs.declared.Taken.the-variants.{Field}
+use Rattle.taken_field.proofs.TakeLaws.{field-none, field-tag, field-headless, field-length, field-short, field-whole}
 use borrow.Author.Needs.{needs}
 use borrow.Author.Tests.{not-true, not-false}
-use Rattle.layout.proofs.take_field.Statement.{statement}
-use Rattle.layout.proofs.take_field.Tie as tie
+use Rattle.taken_field.proofs.take_field.Statement.{statement}
+use Rattle.taken_field.proofs.take_field.Tie as tie
 
 returns : tie.Need-returns
 returns c = sym (field-none _ _ _ (omega arith))

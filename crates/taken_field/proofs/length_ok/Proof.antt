@@ -1,10 +1,10 @@
 -- Test by test.
 use mathlib.Core.Path.{sym}
 use native.Mathlib.Omega.{arith}
-use Rattle.layout.proofs.TakeLaws.{length-short, length-long, length-none, length-entries}
+use Rattle.taken_field.proofs.TakeLaws.{length-short, length-long, length-none, length-entries}
 use borrow.Author.Needs.{needs}
-use Rattle.layout.proofs.length_ok.Statement.{statement}
-use Rattle.layout.proofs.length_ok.Tie as tie
+use Rattle.taken_field.proofs.length_ok.Statement.{statement}
+use Rattle.taken_field.proofs.length_ok.Tie as tie
 
 returns : tie.Need-returns
 returns c = sym (length-short _ _ (omega arith))

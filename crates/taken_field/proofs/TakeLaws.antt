@@ -7,9 +7,9 @@ use lib.Dec.{eqb}
 use lib.ListN.{length, getD}
 use borrow.Author.Tests.{lt-ltb, le-ltb, le-leb, lt-leb, eq-eqb, ne-eqb}
 use Rattle.fields.specs.Places.{u16At}
-use Rattle.layout.specs.Judging.{endedAt, tagAt, lengthAt, lengthOk, fieldAt}
-use Rattle.layout.specs.declared.Rule.{Rule}
-use Rattle.layout.specs.declared.Taken.the-variants.{Field, Broken}
+use Rattle.taken_field.specs.Taking.{endedAt, tagAt, lengthAt, lengthOk, fieldAt}
+use Rattle.taken_field.specs.declared.Rule.{Rule}
+use Rattle.taken_field.specs.declared.Taken.the-variants.{Field, Broken}
 
 module _ (rule : Rule) (len : ℕ) where
   pub length-short : len < rule .least → lengthOk rule len ≡ false

@@ -1,0 +1,2 @@
+-- How one field of bytes is judged.
+pub mod Taking
