@@ -26,10 +26,11 @@ use Rattle.job.specs.JobReading.{jobNumber, isJob, JobRead}
 use Rattle.job.specs.declared.JobAnswer.the-variants.{Job, Broken}
 use Rattle.job.proofs.JobFaultLaws.{job-fault, job-left-over}
 use Rattle.job.proofs.JobLayoutLaws.{job-of-sound}
+use Rattle.job.proofs.JobReadLaws.{broken-read}
 use Rattle.job.proofs.Controls.{clampsA, jobA, sound-A}
 use Rattle.round_trip.proofs.JobTrip.{job-faults-exactly, job-reading-determined}
 use Rattle.feed.specs.Burst.{fresh}
-use Rattle.feed.specs.Ending.{FeedEnds}
+use Rattle.feed.specs.Ending.{Holds, whole, beyond, FeedEnds, told}
 use Rattle.feed.specs.declared.EndAnswer.{EndAnswer}
 use Rattle.bursts.specs.Bursts.{fedAll, joined}
 use Rattle.bursts.proofs.JoinedLaws.{fed-reads-as-joined}
@@ -46,6 +47,15 @@ module _ (work : List ℕ) (long : jobMost ≤ length work) (before : Lists) (si
   nothing-fed : Ends ([] ∷ [] ∷ []) → r .answer ≡ Broken 16 0
   unfolding jobLayout recordLayout fieldAt lengthOk clampsFrom
   nothing-fed ends = fault-told ([] ∷ [] ∷ []) ends (job-fault [] (octets-by [] refl) (endedAt 0) refl)
+
+  -- and so it does end: the contract's words hold of this outcome
+  nothing-ends : FeedEnds fresh work before sides (record { answer = Broken 16 0; state = fresh }) before sides
+  unfolding jobLayout recordLayout fieldAt lengthOk clampsFrom
+  nothing-ends = told long (Broken 16 0) before sides read
+    where
+      read : (bytes : List ℕ) → Holds 0 work bytes → JobRead bytes before sides (Broken 16 0) before sides
+      read bytes (whole inside) = broken-read [] before sides (job-fault [] (octets-by [] refl) (endedAt 0) refl)
+      read bytes (beyond more b lost) = absurd (omega arith)
 
   -- 21 at 11,477, whatever the byte is
   one-byte-too-many : (job : List ℕ) (b : ℕ) → IsJob form1 job → length job ≡ jobMost → Ends (job ∷ (b ∷ []) ∷ []) → r .answer ≡ Broken 21 11477
