@@ -13,7 +13,7 @@ from .shapes import case_bytes  # noqa: E402
 
 SOURCES = sorted((TOP / "tests" / "driver").glob("*.c"))
 BUILT = TOP / "target" / "c" / "driver"
-TIMEOUT = 60
+TIMEOUT = 300  # a run takes some seconds on x86-64, and a minute and more under the emulator on Arm with another script beside it
 
 
 class Failed(Exception):
