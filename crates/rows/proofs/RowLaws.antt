@@ -1,10 +1,12 @@
--- When four numbers hold a row, how a cell follows from the row before, and the entry that is the answer.
+-- When four numbers hold a row, how the next row comes over it from its end, and the entry that is the answer.
 use mathlib.Core.List.{List, [], _∷_}
-use mathlib.Core.Path.{_≡_, sym, _∙_, ap}
-use Prim.Native.Nat.{ℕ, zero, suc, _+_, _-_, _≤_}
+use mathlib.Core.Path.{_≡_, refl, sym, _∙_, ap}
+use Prim.Native.Nat.{ℕ, zero, suc, _+_, _-_, _≤_, _<_}
+use native.Mathlib.Decide.{decLe}
 use native.Mathlib.Omega.{arith}
 use lib.Ieee.{Float, nan}
-use lib.ListN.{getD}
+use lib.ListN.{length, getD, set, length-set}
+use lib.Seq.{getD-set-same, getD-set-other}
 use lib.IntN.{ℤ}
 use Rattle.triangle.specs.FloatTriangle.{cellAt, entryOf, coordinateOf}
 use Rattle.triangle.proofs.FloatTriangleLaws.{entryOf-next}
@@ -15,7 +17,7 @@ pub four-hold :
     (m : ℕ) (ts : List ℕ) (ps : List ℤ) (t i r : ℕ) (a b c d : Float) → m ≤ r + 3 → d ≡ entryOf m ts ps t r i
     → (r + 1 ≤ m → c ≡ entryOf m ts ps t r (i - 1)) → (r + 2 ≤ m → b ≡ entryOf m ts ps t r (i - 2)) → (r + 3 ≤ m → a ≡ entryOf m ts ps t r (i - 3))
     → HoldsRow m ts ps t i r (a ∷ b ∷ c ∷ d ∷ [])
-four-hold m ts ps t i r a b c d most last third second first = record { entry = from-right }
+four-hold m ts ps t i r a b c d most last third second first = record { places = refl; entry = from-right }
   where
     from-right : (k : ℕ) → r + k ≤ m → getD (a ∷ b ∷ c ∷ d ∷ []) (3 - k) nan ≡ entryOf m ts ps t r (i - k)
     from-right zero h = last ∙ ap (entryOf m ts ps t r) (omega arith)
@@ -24,16 +26,61 @@ four-hold m ts ps t i r a b c d most last third second first = record { entry = 
     from-right (suc (suc (suc zero))) h = first h
     from-right (suc (suc (suc (suc k)))) h = absurd (omega arith)
 
--- the cell of two entries that stand side by side is the next row's entry at the right one of them
-pub cell-next :
-    {m : ℕ} {ts : List ℕ} {ps : List ℤ} {t i r : ℕ} {row : List Float} → HoldsRow m ts ps t i r row
-    → (k j : ℕ) (v : Float) → j ≡ i - k → r + (k + 1) ≤ m → v ≡ cellAt m ts t (r + 1) j (getD row (3 - (k + 1)) nan) (getD row (3 - k) nan)
-    → v ≡ entryOf m ts ps t (r + 1) j
-cell-next {m} {ts} {ps} {t} {i} {r} {row} h k j v place inside e =
-    let before : i - (k + 1) ≡ j - 1 = omega arith in
-    let left : getD row (3 - (k + 1)) nan ≡ entryOf m ts ps t r (j - 1) = h .entry (k + 1) inside ∙ ap (entryOf m ts ps t r) before in
-    let right : getD row (3 - k) nan ≡ entryOf m ts ps t r j = h .entry k (omega arith) ∙ ap (entryOf m ts ps t r) (sym place) in
-    e ∙ (λ n. cellAt m ts t (r + 1) j (left n) (right n)) ∙ sym (entryOf-next m ts ps t r j)
+-- between two rows: the k places at the end hold entries of row r+1, those in front of them row r's still
+pub record Overwritten (m : ℕ) (ts : List ℕ) (ps : List ℤ) (t i r k : ℕ) (row : List Float) : Type 0 where
+  pub places : length row ≡ 4
+  pub next : (j : ℕ) → j < k → r + 1 + j ≤ m → getD row (3 - j) nan ≡ entryOf m ts ps t (r + 1) (i - j)
+  pub kept : (j : ℕ) → k ≤ j → r + j ≤ m → getD row (3 - j) nan ≡ entryOf m ts ps t r (i - j)
+
+module _ {m : ℕ} {ts : List ℕ} {ps : List ℤ} {t i r : ℕ} {row : List Float} where
+  -- at first no place is overwritten
+  pub none-overwritten : HoldsRow m ts ps t i r row → Overwritten m ts ps t i r 0 row
+  none-overwritten h = record { places = h .places; next = λ j under. absurd (omega arith); kept = λ j above. h .entry j }
+
+  -- the cell of a place and the one in front of it, both of row r still, is row r+1's entry there
+  cell-next :
+      {k : ℕ} → Overwritten m ts ps t i r k row
+      → {place j : ℕ} {v : Float} → v ≡ cellAt m ts t (r + 1) j (getD row (place - 1) nan) (getD row place nan)
+      → place ≡ 3 - k → j ≡ i - k → r + k < m
+      → v ≡ entryOf m ts ps t (r + 1) (i - k)
+  cell-next {k} h {place} {j} {v} e at-place at-entry inside =
+      let in-front : place - 1 ≡ 3 - (k + 1) = omega arith in
+      let before : i - (k + 1) ≡ j - 1 = omega arith in
+      let left : getD row (place - 1) nan ≡ entryOf m ts ps t r (j - 1) =
+      ap (λ n. getD row n nan) in-front ∙ h .kept (k + 1) (omega arith) (omega arith) ∙ ap (entryOf m ts ps t r) before in
+      let right : getD row place nan ≡ entryOf m ts ps t r j =
+      ap (λ n. getD row n nan) at-place ∙ h .kept k (omega arith) (omega arith) ∙ ap (entryOf m ts ps t r) (sym at-entry) in
+      e ∙ (λ n. cellAt m ts t (r + 1) j (left n) (right n)) ∙ sym (entryOf-next m ts ps t r j) ∙ ap (entryOf m ts ps t (r + 1)) at-entry
+
+  -- that cell goes over its place, and no other place moves
+  pub one-more :
+      {k : ℕ} → Overwritten m ts ps t i r k row
+      → {place j : ℕ} {v : Float} → v ≡ cellAt m ts t (r + 1) j (getD row (place - 1) nan) (getD row place nan)
+      → place ≡ 3 - k → j ≡ i - k → r + k < m → k < 3
+      → Overwritten m ts ps t i r (k + 1) (set row place v)
+  one-more {k} h {place} {j} {v} e at-place at-entry inside few =
+      record {
+        places = length-set row place v ∙ h .places;
+        next = written;
+        kept = λ l above here. getD-set-other row place (3 - l) v nan (λ same. absurd (omega (arith, same))) ∙ h .kept l (omega arith) here;
+      }
+    where
+      written : (l : ℕ) → l < k + 1 → r + 1 + l ≤ m → getD (set row place v) (3 - l) nan ≡ entryOf m ts ps t (r + 1) (i - l)
+      written l under here = by (decLe k l)
+        where
+          by : Dec (k ≤ l) → getD (set row place v) (3 - l) nan ≡ entryOf m ts ps t (r + 1) (i - l)
+          by (yes last) =
+              let this : place ≡ 3 - l = omega arith in
+              let one : i - k ≡ i - l = omega arith in
+              ap (λ n. getD (set row place v) n nan) (sym this)
+              ∙ getD-set-same row place v nan (omega (arith, h .places))
+              ∙ cell-next h e at-place at-entry inside
+              ∙ ap (entryOf m ts ps t (r + 1)) one
+          by (no before) = getD-set-other row place (3 - l) v nan (λ same. absurd (omega (arith, same))) ∙ h .next l (omega arith) here
+
+  -- where row r+1 has no further entry, it is there
+  pub next-row-holds : {k : ℕ} → Overwritten m ts ps t i r k row → m ≤ r + k → HoldsRow m ts ps t i (r + 1) row
+  next-row-holds h past = record { places = h .places; entry = λ j here. h .next j (omega arith) here }
 
 -- the last row's one entry, at place 3, is the coordinate
 pub last-entry :

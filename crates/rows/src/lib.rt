@@ -1,5 +1,6 @@
-// The rows of the triangle, each an array of four numbers that goes in and comes out by value. Entries stand from place 3 to the
-// left: every place is a fixed one, whatever the degree, so a row is kept in registers and costs no traffic with memory.
+// The triangle in one row: an array of four numbers that goes into a step and comes out of it by value, with the next row written over the one before.
+// Entries stand from place 3 to the left, whatever the degree, and each loop says itself that it takes at most three turns: so the compiler
+// unrolls them and keeps the row in registers.
 ghost use mathlib.Core.Path.{_≡_};
 ghost use mathlib.Core.List.{List};
 ghost use Prim.Native.Nat.{ℕ, _+_, _-_, _≤_, _<_};
@@ -52,38 +53,39 @@ fn cell_at(knots: &[u16], degree: usize, r: usize, j: usize, t: u16, l: f64, d: 
     )
 }
 
-// Row r + 1 from row r: at each place the cell of the entry before it and its own.
-fn next_row(row: [f64; 4], knots: &[u16], degree: usize, span: usize, r: usize, t: u16) -> [f64; 4]
+// Row r + 1 over row r, from the end of the row on: a cell reads its own place and the one in front of it, so each place is read before it is written.
+fn next_row(
+    mut row: [f64; 4],
+    knots: &[u16],
+    degree: usize,
+    span: usize,
+    r: usize,
+    t: u16,
+) -> [f64; 4]
     requires { ⌜ (r < degree) × (degree ≤ 3) × (degree ≤ span) × (span + degree < length (now knots)) ⌝ }
     ensures answer { λ d. ⌜ ((ps : List ℤ) → HoldsRow degree (now (knots .entry)) ps t span r row
         → HoldsRow degree (now (knots .entry)) ps t span (r + 1) d) ⌝ }
 {
-    let last = cell_at(knots, degree, r + 1, span, t, row[2], row[3]);
-    if degree == r + 1 {
-        return [0.0, 0.0, 0.0, last];
+    let mut k = 0;
+    while k < 3 && r + k < degree {
+        let place = 3 - k;
+        let j = span + place - 3;
+        row[place] = cell_at(knots, degree, r + 1, j, t, row[place - 1], row[place]);
+        k += 1;
     }
-    let third = cell_at(knots, degree, r + 1, span - 1, t, row[1], row[2]);
-    if degree == r + 2 {
-        return [0.0, 0.0, third, last];
-    }
-    let second = cell_at(knots, degree, r + 1, span - 2, t, row[0], row[1]);
-    [0.0, second, third, last]
+    row
 }
 
-// One coordinate of the point. Every row of the triangle is kept.
+// One coordinate of the point: one row is kept, and a step for each further row of the triangle writes over it.
 pub fn coordinate(knots: &[u16], ps: &[i32], degree: usize, span: usize, t: u16) -> f64
     requires { ⌜ (1 ≤ degree) × (degree ≤ 3) × (degree ≤ span) × (span < length (now ps)) × (span + degree < length (now knots)) ⌝ }
     ensures answer { λ r. ⌜ r ≡ coordinateOf degree (now (knots .entry)) (now (ps .entry)) span t ⌝ }
 {
-    let row0 = first_row(ps, degree, span);
-    let row1 = next_row(row0, knots, degree, span, 0, t);
-    if degree == 1 {
-        return row1[3];
+    let mut row = first_row(ps, degree, span);
+    let mut r = 0;
+    while r < 3 && r < degree {
+        row = next_row(row, knots, degree, span, r, t);
+        r += 1;
     }
-    let row2 = next_row(row1, knots, degree, span, 1, t);
-    if degree == 2 {
-        return row2[3];
-    }
-    let row3 = next_row(row2, knots, degree, span, 2, t);
-    row3[3]
+    row[3]
 }

@@ -1,69 +1,64 @@
--- `rows::coordinate` meets its contract: each row follows from the row before, and row m has one entry.
+-- `rows::coordinate` meets its contract: at each turn the array holds the row that was counted, and row m has one entry.
 use native.Mathlib.Omega.{arith}
+use mathlib.Core.Logic.{⊎-elim}
 use mathlib.Core.Path.{_≡_}
-use denote.Ref.{now}
-use Rattle.rows.proofs.RowLaws.{last-entry}
+use Prim.Native.Nat.{_-_, _≤_}
 use borrow.Author.Needs.{needs}
+use borrow.Author.Tests.{ltb-true, ltb-false}
+use denote.Ref.{now}
+use Rattle.rows.specs.Row.{HoldsRow}
+use Rattle.rows.proofs.RowLaws.{last-entry}
 use Rattle.rows.proofs.coordinate.Statement.{statement}
 use Rattle.rows.proofs.coordinate.Tie as tie
 
-first-row-requires : tie.Need-first-row-requires
+abbrev Inv-loop : tie.InvT-loop
+Inv-loop knots ps degree span t row₀ r₀ row r = (r ≤ degree) × HoldsRow degree knots ps t span r row
+
+abbrev μ-loop : tie.MeasureT-loop
+μ-loop knots ps degree span t row₀ r₀ row r = 3 - r
+
+first-row-requires : tie.Need-first-row-requires Inv-loop μ-loop
 first-row-requires c κs = search needs
 
-next-row-requires : tie.Need-next-row-requires
-next-row-requires c κs = search needs
+loop-holds : tie.Need-loop-holds Inv-loop μ-loop
+loop-holds c =
+    let x = c .before .before .args in (omega arith, c .first-row .ensures (now (x .knots)) (x .t))
 
-array-read-result : tie.Need-array-read-result
+next-row-requires : tie.Need-next-row-requires Inv-loop μ-loop
+next-row-requires c κs = (omega (arith, ltb-true), omega arith, omega arith, omega arith)
+
+add-r : tie.Need-add-r Inv-loop μ-loop
+add-r c = search needs
+
+loop-less : tie.Need-loop-less Inv-loop μ-loop
+loop-less c = search needs
+
+loop-again : tie.Need-loop-again Inv-loop μ-loop
+loop-again c =
+    let x = c .before .before .before .before .before .before .args in
+    let at = c .before .before .before .loop in (omega (arith, ltb-true), c .next-row .ensures (now (x .ps)) (at .inv .1))
+
+array-read-result : tie.Need-array-read-result Inv-loop μ-loop
 array-read-result c = search needs
 
-returns : tie.Need-returns
+returns : tie.Need-returns Inv-loop μ-loop
 returns c =
     let x = c .before .before .before .before .args in
-    let row0 = c .before .before .first-row .ensures (now (x .knots)) (x .t) in
-    let row1 = c .before .next-row .ensures (now (x .ps)) row0 in
-    last-entry (x .degree) (now (x .knots)) (now (x .ps)) (x .t) (x .span) 1 _ (c .if1 .taken) row1
-
-next-row-requires-2 : tie.Need-next-row-requires-2
-next-row-requires-2 c κs = search needs
-
-array-read-result-2 : tie.Need-array-read-result-2
-array-read-result-2 c = search needs
-
-returns-2 : tie.Need-returns-2
-returns-2 c =
-    let x = c .before .before .before .before .before .before .args in
-    let row0 = c .before .before .before .before .first-row .ensures (now (x .knots)) (x .t) in
-    let row1 = c .before .before .before .next-row .ensures (now (x .ps)) row0 in
-    let row2 = c .before .next-row2 .ensures (now (x .ps)) row1 in
-    last-entry (x .degree) (now (x .knots)) (now (x .ps)) (x .t) (x .span) 2 _ (c .if2 .taken) row2
-
-next-row-requires-3 : tie.Need-next-row-requires-3
-next-row-requires-3 c κs = search needs
-
-array-read-result-3 : tie.Need-array-read-result-3
-array-read-result-3 c = search needs
-
-returns-3 : tie.Need-returns-3
-returns-3 c =
-    let x = c .before .before .before .before .before .before .before .args in
-    let row0 = c .before .before .before .before .before .first-row .ensures (now (x .knots)) (x .t) in
-    let row1 = c .before .before .before .before .next-row .ensures (now (x .ps)) row0 in
-    let row2 = c .before .before .next-row2 .ensures (now (x .ps)) row1 in
-    let row3 = c .next-row3 .ensures (now (x .ps)) row2 in
-    let three : x .degree ≡ 3 = omega arith in
-    last-entry (x .degree) (now (x .knots)) (now (x .ps)) (x .t) (x .span) 3 _ three row3
+    let at = c .before .loop in
+    let done : x .degree ≡ at .r = ⊎-elim (λ w. omega (arith, ltb-false, at .inv .0)) (λ w. omega (arith, at .inv .0)) (c .loop-test .came) in
+    last-entry (x .degree) (now (x .knots)) (now (x .ps)) (x .t) (x .span) (at .r) (at .row) done (at .inv .1)
 
 pub coordinate-spec : {M : Type 1} → statement M
 coordinate-spec =
     tie.close
     (tie.spec
+    Inv-loop
+    μ-loop
     first-row-requires
+    loop-holds
     next-row-requires
+    add-r
+    loop-less
+    loop-again
     array-read-result
-    returns
-    next-row-requires-2
-    array-read-result-2
-    returns-2
-    next-row-requires-3
-    array-read-result-3
-    returns-3)
+    returns)

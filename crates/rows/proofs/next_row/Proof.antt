@@ -1,108 +1,106 @@
--- `rows::next_row` meets its contract: each place that the degree asks for holds the cell of row r.
+-- `rows::next_row` meets its contract: each turn takes one cell more over its place, from the end of the row on.
 use native.Mathlib.Omega.{arith}
-use mathlib.Core.Path.{refl}
-use Prim.Native.Nat.{_+_, _-_}
+use mathlib.Core.List.{List}
+use Prim.Native.Nat.{_+_, _-_, _≤_, _<_}
+use lib.IntN.{ℤ}
 use borrow.Author.Needs.{needs}
+use borrow.Author.Tests.{ltb-true, ltb-false}
 use denote.Ref.{now}
-use Rattle.rows.proofs.RowLaws.{four-hold, cell-next}
+use Rattle.rows.specs.Row.{HoldsRow}
+use Rattle.rows.proofs.RowLaws.{Overwritten, none-overwritten, one-more, next-row-holds}
 use Rattle.rows.proofs.next_row.Statement.{statement}
 use Rattle.rows.proofs.next_row.Tie as tie
 
-add-cell-at : tie.Need-add-cell-at
-add-cell-at c = search needs
+abbrev Inv-loop : tie.InvT-loop
+Inv-loop knots degree span r t row₀ k₀ row k =
+    (k ≤ 3) × (r + k ≤ degree) × ((ps : List ℤ) → HoldsRow degree knots ps t span r row₀ → Overwritten degree knots ps t span r k row)
 
-array-read-cell-at : tie.Need-array-read-cell-at
-array-read-cell-at c = search needs
+abbrev μ-loop : tie.MeasureT-loop
+μ-loop knots degree span r t row₀ k₀ row k = 3 - k
 
-array-read-cell-at-2 : tie.Need-array-read-cell-at-2
-array-read-cell-at-2 c = search needs
+loop-holds : tie.Need-loop-holds Inv-loop μ-loop
+loop-holds c = (omega arith, omega arith, λ ps h. none-overwritten h)
 
-cell-at-requires : tie.Need-cell-at-requires
-cell-at-requires c κs = search needs
-
-add-if1 : tie.Need-add-if1
+add-if1 : tie.Need-add-if1 Inv-loop μ-loop
 add-if1 c = search needs
 
-returns : tie.Need-returns
-returns c = λ ps h.
-    let x = c .before .before .before .args in
-    four-hold (x .degree) (now (x .knots)) ps (x .t) (x .span) (x .r + 1) _ _ _ _ (omega arith)
-    (cell-next h 0 (x .span) _ (omega arith) (omega arith) (c .before .cell-at .ensures))
-    (λ g. absurd (omega arith))
-    (λ g. absurd (omega arith))
-    (λ g. absurd (omega arith))
+sub-place : tie.Need-sub-place Inv-loop μ-loop
+sub-place c = search needs
 
-add-cell-at-2 : tie.Need-add-cell-at-2
-add-cell-at-2 c = search needs
+add-j : tie.Need-add-j Inv-loop μ-loop
+add-j c = search needs
 
-sub-cell-at : tie.Need-sub-cell-at
+sub-j : tie.Need-sub-j Inv-loop μ-loop
+sub-j c = search needs
+
+add-cell-at : tie.Need-add-cell-at Inv-loop μ-loop
+add-cell-at c = search needs
+
+sub-cell-at : tie.Need-sub-cell-at Inv-loop μ-loop
 sub-cell-at c = search needs
 
-array-read-cell-at-3 : tie.Need-array-read-cell-at-3
-array-read-cell-at-3 c = search needs
+mul-cell-at : tie.Need-mul-cell-at Inv-loop μ-loop
+mul-cell-at c = search needs
 
-array-read-cell-at-4 : tie.Need-array-read-cell-at-4
-array-read-cell-at-4 c = search needs
+array-read-cell-at : tie.Need-array-read-cell-at Inv-loop μ-loop
+array-read-cell-at c = omega (arith, ltb-true)
 
-cell-at-requires-2 : tie.Need-cell-at-requires-2
-cell-at-requires-2 c κs = search needs
+mul-cell-at-2 : tie.Need-mul-cell-at-2 Inv-loop μ-loop
+mul-cell-at-2 c = search needs
 
-add-if2 : tie.Need-add-if2
-add-if2 c = search needs
+array-read-cell-at-2 : tie.Need-array-read-cell-at-2 Inv-loop μ-loop
+array-read-cell-at-2 c = omega (arith, ltb-true)
 
-returns-2 : tie.Need-returns-2
-returns-2 c = λ ps h.
+cell-at-requires : tie.Need-cell-at-requires Inv-loop μ-loop
+cell-at-requires c κs = (omega (arith, ltb-true), omega (arith, ltb-true))
+
+mul-row : tie.Need-mul-row Inv-loop μ-loop
+mul-row c = search needs
+
+array-write-row : tie.Need-array-write-row Inv-loop μ-loop
+array-write-row c = omega (arith, ltb-true)
+
+add-k : tie.Need-add-k Inv-loop μ-loop
+add-k c = search needs
+
+loop-less : tie.Need-loop-less Inv-loop μ-loop
+loop-less c = search needs
+
+loop-again : tie.Need-loop-again Inv-loop μ-loop
+loop-again c =
     let x = c .before .before .before .before .before .args in
-    four-hold (x .degree) (now (x .knots)) ps (x .t) (x .span) (x .r + 1) _ _ _ _ (omega arith)
-    (cell-next h 0 (x .span) _ (omega arith) (omega arith) (c .before .before .before .cell-at .ensures))
-    (λ g. cell-next h 1 (x .span - 1) _ refl (omega arith) (c .before .cell-at2 .ensures))
-    (λ g. absurd (omega arith))
-    (λ g. absurd (omega arith))
+    let at = c .before .before .before .loop in
+    let inside : x .r + at .k < x .degree = omega (arith, ltb-true) in
+    (omega arith, omega arith, λ ps h. one-more (at .inv .2 ps h) (c .cell-at .ensures) (omega arith) (omega arith) inside (omega arith))
 
-add-cell-at-3 : tie.Need-add-cell-at-3
-add-cell-at-3 c = search needs
+returns : tie.Need-returns Inv-loop μ-loop
+returns c = λ ps h. next-row-holds (c .before .before .loop .inv .2 ps h) (omega (arith, ltb-false))
 
-sub-cell-at-2 : tie.Need-sub-cell-at-2
-sub-cell-at-2 c = search needs
-
-array-read-cell-at-5 : tie.Need-array-read-cell-at-5
-array-read-cell-at-5 c = search needs
-
-array-read-cell-at-6 : tie.Need-array-read-cell-at-6
-array-read-cell-at-6 c = search needs
-
-cell-at-requires-3 : tie.Need-cell-at-requires-3
-cell-at-requires-3 c κs = search needs
-
-returns-3 : tie.Need-returns-3
-returns-3 c = λ ps h.
-    let x = c .before .before .before .before .before .before .args in
-    four-hold (x .degree) (now (x .knots)) ps (x .t) (x .span) (x .r + 1) _ _ _ _ (omega arith)
-    (cell-next h 0 (x .span) _ (omega arith) (omega arith) (c .before .before .before .before .cell-at .ensures))
-    (λ g. cell-next h 1 (x .span - 1) _ refl (omega arith) (c .before .before .cell-at2 .ensures))
-    (λ g. cell-next h 2 (x .span - 2) _ refl (omega arith) (c .cell-at3 .ensures))
-    (λ g. absurd (omega arith))
+returns-2 : tie.Need-returns-2 Inv-loop μ-loop
+returns-2 c = λ ps h. next-row-holds (c .before .loop .inv .2 ps h) (omega arith)
 
 pub next-row-spec : {M : Type 1} → statement M
 next-row-spec =
     tie.close
     (tie.spec
+    Inv-loop
+    μ-loop
+    loop-holds
+    add-if1
+    sub-place
+    add-j
+    sub-j
     add-cell-at
+    sub-cell-at
+    mul-cell-at
     array-read-cell-at
+    mul-cell-at-2
     array-read-cell-at-2
     cell-at-requires
-    add-if1
+    mul-row
+    array-write-row
+    add-k
+    loop-less
+    loop-again
     returns
-    add-cell-at-2
-    sub-cell-at
-    array-read-cell-at-3
-    array-read-cell-at-4
-    cell-at-requires-2
-    add-if2
-    returns-2
-    add-cell-at-3
-    sub-cell-at-2
-    array-read-cell-at-5
-    array-read-cell-at-6
-    cell-at-requires-3
-    returns-3)
+    returns-2)
