@@ -1,7 +1,7 @@
 -- When four numbers hold a row, how the next row comes over it from its end, and the entry that is the answer.
 use mathlib.Core.List.{List, [], _∷_}
-use mathlib.Core.Path.{_≡_, refl, sym, _∙_, ap}
-use Prim.Native.Nat.{ℕ, zero, suc, _+_, _-_, _≤_, _<_}
+use mathlib.Core.Path.{_≡_, refl, sym, _∙_, ap, subst}
+use Prim.Native.Nat.{ℕ, zero, suc, _+_, _-_, _≤_, _<_, min}
 use native.Mathlib.Decide.{decLe}
 use native.Mathlib.Omega.{arith}
 use lib.Ieee.{Float, nan}
@@ -78,9 +78,35 @@ module _ {m : ℕ} {ts : List ℕ} {ps : List ℤ} {t i r : ℕ} {row : List Flo
               ∙ ap (entryOf m ts ps t (r + 1)) one
           by (no before) = getD-set-other row place (3 - l) v nan (λ same. absurd (omega (arith, same))) ∙ h .next l (omega arith) here
 
+  -- a place that row r+1 has no entry for stays as it is
+  pub none-more : {k : ℕ} → Overwritten m ts ps t i r k row → m ≤ r + k → Overwritten m ts ps t i r (k + 1) row
+  none-more h past = record { places = h .places; next = λ j under here. h .next j (omega arith) here; kept = λ j above. h .kept j (omega arith) }
+
   -- where row r+1 has no further entry, it is there
   pub next-row-holds : {k : ℕ} → Overwritten m ts ps t i r k row → m ≤ r + k → HoldsRow m ts ps t i (r + 1) row
   next-row-holds h past = record { places = h .places; entry = λ j here. h .next j (omega arith) here }
+
+module _ {m : ℕ} {ts : List ℕ} {ps : List ℤ} {t i : ℕ} {row : List Float} where
+  -- n steps are done, or as many as there are: at first none is
+  pub no-step : HoldsRow m ts ps t i 0 row → HoldsRow m ts ps t i (min m 0) row
+  no-step h =
+      let none : 0 ≡ min m 0 = omega arith in
+      subst (λ r. HoldsRow m ts ps t i r row) none h
+
+  -- where there is one more, a step does it
+  pub step-more :
+      {n : ℕ} {d : List Float} → n < m → (HoldsRow m ts ps t i n row → HoldsRow m ts ps t i (n + 1) d)
+      → HoldsRow m ts ps t i (min m n) row → HoldsRow m ts ps t i (min m (n + 1)) d
+  step-more {n} {d} more step h =
+      let here : min m n ≡ n = omega arith in
+      let there : n + 1 ≡ min m (n + 1) = omega arith in
+      subst (λ r. HoldsRow m ts ps t i r d) there (step (subst (λ r. HoldsRow m ts ps t i r row) here h))
+
+  -- where there is none, they are all done
+  pub step-none : {n : ℕ} → m ≤ n → HoldsRow m ts ps t i (min m n) row → HoldsRow m ts ps t i (min m (n + 1)) row
+  step-none {n} past h =
+      let same : min m n ≡ min m (n + 1) = omega arith in
+      subst (λ r. HoldsRow m ts ps t i r row) same h
 
 -- the last row's one entry, at place 3, is the coordinate
 pub last-entry :

@@ -1,6 +1,5 @@
 // The triangle in one row: an array of four numbers that goes into a step and comes out of it by value, with the next row written over the one before.
-// Entries stand from place 3 to the left, whatever the degree, and each loop says itself that it takes at most three turns: so the compiler
-// unrolls them and keeps the row in registers.
+// Entries stand from place 3 to the left: every place is a fixed one, whatever the degree, so the compiler keeps the row in registers.
 ghost use mathlib.Core.Path.{_≡_};
 ghost use mathlib.Core.List.{List};
 ghost use Prim.Native.Nat.{ℕ, _+_, _-_, _≤_, _<_};
@@ -25,15 +24,14 @@ fn first_row(ps: &[i32], degree: usize, span: usize) -> [f64; 4]
 {
     let third = entry(ps, span - 1);
     let last = entry(ps, span);
-    if degree == 1 {
-        return [0.0, 0.0, third, last];
+    let mut row = [0.0, 0.0, third, last];
+    if degree > 1 {
+        row[1] = entry(ps, span - 2);
     }
-    let second = entry(ps, span - 2);
-    if degree == 2 {
-        return [0.0, second, third, last];
+    if degree > 2 {
+        row[0] = entry(ps, span - 3);
     }
-    let first = entry(ps, span - 3);
-    [first, second, third, last]
+    row
 }
 
 // The cell of row r at j, from the two entries of the row before.
@@ -53,7 +51,7 @@ fn cell_at(knots: &[u16], degree: usize, r: usize, j: usize, t: u16, l: f64, d: 
     )
 }
 
-// Row r + 1 over row r, from the end of the row on: a cell reads its own place and the one in front of it, so each place is read before it is written.
+// Row r + 1 over row r. A cell reads its own place and the one in front of it, so places are written from the end: each is read before it is written.
 fn next_row(
     mut row: [f64; 4],
     knots: &[u16],
@@ -62,30 +60,35 @@ fn next_row(
     r: usize,
     t: u16,
 ) -> [f64; 4]
-    requires { ⌜ (r < degree) × (degree ≤ 3) × (degree ≤ span) × (span + degree < length (now knots)) ⌝ }
+    requires { ⌜ (r ≤ degree) × (degree ≤ 3) × (degree ≤ span) × (span + degree < length (now knots)) ⌝ }
     ensures answer { λ d. ⌜ ((ps : List ℤ) → HoldsRow degree (now (knots .entry)) ps t span r row
         → HoldsRow degree (now (knots .entry)) ps t span (r + 1) d) ⌝ }
 {
-    let mut k = 0;
-    while k < 3 && r + k < degree {
-        let place = 3 - k;
-        let j = span + place - 3;
-        row[place] = cell_at(knots, degree, r + 1, j, t, row[place - 1], row[place]);
-        k += 1;
+    let entries = degree - r;
+    if entries > 0 {
+        row[3] = cell_at(knots, degree, r + 1, span, t, row[2], row[3]);
+    }
+    if entries > 1 {
+        row[2] = cell_at(knots, degree, r + 1, span - 1, t, row[1], row[2]);
+    }
+    if entries > 2 {
+        row[1] = cell_at(knots, degree, r + 1, span - 2, t, row[0], row[1]);
     }
     row
 }
 
-// One coordinate of the point: one row is kept, and a step for each further row of the triangle writes over it.
+// One coordinate of the point: row 0, and a step for each further row of the triangle.
 pub fn coordinate(knots: &[u16], ps: &[i32], degree: usize, span: usize, t: u16) -> f64
     requires { ⌜ (1 ≤ degree) × (degree ≤ 3) × (degree ≤ span) × (span < length (now ps)) × (span + degree < length (now knots)) ⌝ }
     ensures answer { λ r. ⌜ r ≡ coordinateOf degree (now (knots .entry)) (now (ps .entry)) span t ⌝ }
 {
     let mut row = first_row(ps, degree, span);
-    let mut r = 0;
-    while r < 3 && r < degree {
-        row = next_row(row, knots, degree, span, r, t);
-        r += 1;
+    row = next_row(row, knots, degree, span, 0, t);
+    if degree > 1 {
+        row = next_row(row, knots, degree, span, 1, t);
+    }
+    if degree > 2 {
+        row = next_row(row, knots, degree, span, 2, t);
     }
     row[3]
 }

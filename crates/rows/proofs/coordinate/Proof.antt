@@ -1,64 +1,70 @@
--- `rows::coordinate` meets its contract: at each turn the array holds the row that was counted, and row m has one entry.
+-- `rows::coordinate` meets its contract: as many rows are worked out as the degree has, and the last has one entry.
 use native.Mathlib.Omega.{arith}
+use mathlib.Core.List.{List}
 use mathlib.Core.Logic.{⊎-elim}
-use mathlib.Core.Path.{_≡_}
-use Prim.Native.Nat.{_-_, _≤_}
+use mathlib.Core.Path.{_≡_, sym, subst}
+use Prim.Native.Nat.{ℕ, min}
+use lib.Ieee.{Float}
 use borrow.Author.Needs.{needs}
-use borrow.Author.Tests.{ltb-true, ltb-false}
 use denote.Ref.{now}
 use Rattle.rows.specs.Row.{HoldsRow}
-use Rattle.rows.proofs.RowLaws.{last-entry}
+use Rattle.rows.proofs.RowLaws.{no-step, step-more, step-none, last-entry}
 use Rattle.rows.proofs.coordinate.Statement.{statement}
 use Rattle.rows.proofs.coordinate.Tie as tie
 
-abbrev Inv-loop : tie.InvT-loop
-Inv-loop knots ps degree span t row₀ r₀ row r = (r ≤ degree) × HoldsRow degree knots ps t span r row
-
-abbrev μ-loop : tie.MeasureT-loop
-μ-loop knots ps degree span t row₀ r₀ row r = 3 - r
-
-first-row-requires : tie.Need-first-row-requires Inv-loop μ-loop
+first-row-requires : tie.Need-first-row-requires
 first-row-requires c κs = search needs
 
-loop-holds : tie.Need-loop-holds Inv-loop μ-loop
-loop-holds c =
-    let x = c .before .before .args in (omega arith, c .first-row .ensures (now (x .knots)) (x .t))
+next-row-requires : tie.Need-next-row-requires
+next-row-requires c κs = search needs
 
-next-row-requires : tie.Need-next-row-requires Inv-loop μ-loop
-next-row-requires c κs = (omega (arith, ltb-true), omega arith, omega arith, omega arith)
+next-row-requires-2 : tie.Need-next-row-requires-2
+next-row-requires-2 c κs = search needs
 
-add-r : tie.Need-add-r Inv-loop μ-loop
-add-r c = search needs
+next-row-requires-3 : tie.Need-next-row-requires-3
+next-row-requires-3 c κs = search needs
 
-loop-less : tie.Need-loop-less Inv-loop μ-loop
-loop-less c = search needs
-
-loop-again : tie.Need-loop-again Inv-loop μ-loop
-loop-again c =
-    let x = c .before .before .before .before .before .before .args in
-    let at = c .before .before .before .loop in (omega (arith, ltb-true), c .next-row .ensures (now (x .ps)) (at .inv .1))
-
-array-read-result : tie.Need-array-read-result Inv-loop μ-loop
+array-read-result : tie.Need-array-read-result
 array-read-result c = search needs
 
-returns : tie.Need-returns Inv-loop μ-loop
+-- the row after n steps, or after as many as there are
+abbrev After : tie.Start → ℕ → List Float → Type 0
+After s n row = let x = s .args in HoldsRow (x .degree) (now (x .knots)) (now (x .ps)) (x .t) (x .span) (min (x .degree) n) row
+
+one : (c : tie.After-next-row) → After (c .before .before .before) 1 (c .next-row .result)
+one c =
+    let x = c .before .before .before .args in
+    step-more (omega arith) (c .next-row .ensures (now (x .ps))) (no-step (c .before .first-row .ensures (now (x .knots)) (x .t)))
+
+two : (c : tie.Joined1) → After (c .before .before .before .before) 2 (c .if1 .row)
+two c =
+    let s = c .before .before .before .before in
+    ⊎-elim
+    (λ w. subst (After s 2) (sym (w .2)) (step-more (w .0 .taken) (w .1 .ensures (now (s .args .ps))) (one (c .before))))
+    (λ w. subst (After s 2) (sym (w .1)) (step-none (w .0 .left) (one (c .before))))
+    (c .if1 .came)
+
+three : (c : tie.Joined2) → After (c .before .before .before .before .before) 3 (c .if2 .row)
+three c =
+    let s = c .before .before .before .before .before in
+    ⊎-elim
+    (λ w. subst (After s 3) (sym (w .2)) (step-more (w .0 .taken) (w .1 .ensures (now (s .args .ps))) (two (c .before))))
+    (λ w. subst (After s 3) (sym (w .1)) (step-none (w .0 .left) (two (c .before))))
+    (c .if2 .came)
+
+returns : tie.Need-returns
 returns c =
-    let x = c .before .before .before .before .args in
-    let at = c .before .loop in
-    let done : x .degree ≡ at .r = ⊎-elim (λ w. omega (arith, ltb-false, at .inv .0)) (λ w. omega (arith, at .inv .0)) (c .loop-test .came) in
-    last-entry (x .degree) (now (x .knots)) (now (x .ps)) (x .t) (x .span) (at .r) (at .row) done (at .inv .1)
+    let x = c .before .before .before .before .before .args in
+    let done : x .degree ≡ min (x .degree) 3 = omega arith in
+    last-entry (x .degree) (now (x .knots)) (now (x .ps)) (x .t) (x .span) (min (x .degree) 3) (c .if2 .row) done (three c)
 
 pub coordinate-spec : {M : Type 1} → statement M
 coordinate-spec =
     tie.close
     (tie.spec
-    Inv-loop
-    μ-loop
     first-row-requires
-    loop-holds
     next-row-requires
-    add-r
-    loop-less
-    loop-again
+    next-row-requires-2
+    next-row-requires-3
     array-read-result
     returns)
