@@ -25,10 +25,10 @@ fn first_row(ps: &[i32], degree: usize, span: usize) -> [f64; 4]
     let third = entry(ps, span - 1);
     let last = entry(ps, span);
     let mut row = [0.0, 0.0, third, last];
-    if degree > 1 {
+    if degree >= 2 {
         row[1] = entry(ps, span - 2);
     }
-    if degree > 2 {
+    if degree >= 3 {
         row[0] = entry(ps, span - 3);
     }
     row
@@ -60,19 +60,17 @@ fn next_row(
     r: usize,
     t: u16,
 ) -> [f64; 4]
-    requires { ⌜ (r ≤ degree) × (degree ≤ 3) × (degree ≤ span) × (span + degree < length (now knots)) ⌝ }
+    requires { ⌜ (r < degree) × (degree ≤ 3) × (degree ≤ span) × (span + degree < length (now knots)) ⌝ }
     ensures answer { λ d. ⌜ ((ps : List ℤ) → HoldsRow degree (now (knots .entry)) ps t span r row
         → HoldsRow degree (now (knots .entry)) ps t span (r + 1) d) ⌝ }
 {
     let entries = degree - r;
-    if entries > 0 {
-        row[3] = cell_at(knots, degree, r + 1, span, t, row[2], row[3]);
-    }
-    if entries > 1 {
-        row[2] = cell_at(knots, degree, r + 1, span - 1, t, row[1], row[2]);
-    }
-    if entries > 2 {
-        row[1] = cell_at(knots, degree, r + 1, span - 2, t, row[0], row[1]);
+    for k in 0..3 {
+        if k < entries {
+            let place = 3 - k;
+            let j = span + place - 3;
+            row[place] = cell_at(knots, degree, r + 1, j, t, row[place - 1], row[place]);
+        }
     }
     row
 }

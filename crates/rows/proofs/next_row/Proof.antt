@@ -1,11 +1,10 @@
--- `rows::next_row` meets its contract: each place that row r+1 has an entry for takes its cell, from the end on.
+-- `rows::next_row` meets its contract: turn k writes one entry more over its place, the k-th from the end, if row r+1 has it.
 use native.Mathlib.Omega.{arith}
 use mathlib.Core.List.{List}
 use mathlib.Core.Logic.{⊎-elim}
 use mathlib.Core.Path.{sym, subst}
-use Prim.Native.Nat.{ℕ}
+use Prim.Native.Nat.{_+_, _-_, _≤_}
 use lib.IntN.{ℤ}
-use lib.Ieee.{Float}
 use borrow.Author.Needs.{needs}
 use denote.Ref.{now}
 use Rattle.rows.specs.Row.{HoldsRow}
@@ -13,114 +12,102 @@ use Rattle.rows.proofs.RowLaws.{Overwritten, none-overwritten, one-more
 use Rattle.rows.proofs.next_row.Statement.{statement}
 use Rattle.rows.proofs.next_row.Tie as tie
 
-sub-entries : tie.Need-sub-entries
+abbrev Inv-loop : tie.InvT-loop
+Inv-loop knots degree span r t row₀ entries k₀ row k =
+    (k ≤ 3) × ((ps : List ℤ) → HoldsRow degree knots ps t span r row₀ → Overwritten degree knots ps t span r k row)
+
+abbrev μ-loop : tie.MeasureT-loop
+μ-loop knots degree span r t row₀ entries k₀ row k = 3 - k
+
+sub-entries : tie.Need-sub-entries Inv-loop μ-loop
 sub-entries c = search needs
 
-add-cell-at : tie.Need-add-cell-at
+loop-holds : tie.Need-loop-holds Inv-loop μ-loop
+loop-holds c = (omega arith, λ ps h. none-overwritten h)
+
+sub-place : tie.Need-sub-place Inv-loop μ-loop
+sub-place c = search needs
+
+add-j : tie.Need-add-j Inv-loop μ-loop
+add-j c = search needs
+
+sub-j : tie.Need-sub-j Inv-loop μ-loop
+sub-j c = search needs
+
+add-cell-at : tie.Need-add-cell-at Inv-loop μ-loop
 add-cell-at c = search needs
 
-array-read-cell-at : tie.Need-array-read-cell-at
-array-read-cell-at c = search needs
-
-array-read-cell-at-2 : tie.Need-array-read-cell-at-2
-array-read-cell-at-2 c = search needs
-
-cell-at-requires : tie.Need-cell-at-requires
-cell-at-requires c κs = search needs
-
-array-write-row : tie.Need-array-write-row
-array-write-row c = search needs
-
-add-cell-at-2 : tie.Need-add-cell-at-2
-add-cell-at-2 c = search needs
-
-sub-cell-at : tie.Need-sub-cell-at
+sub-cell-at : tie.Need-sub-cell-at Inv-loop μ-loop
 sub-cell-at c = search needs
 
-array-read-cell-at-3 : tie.Need-array-read-cell-at-3
-array-read-cell-at-3 c = search needs
+mul-cell-at : tie.Need-mul-cell-at Inv-loop μ-loop
+mul-cell-at c = search needs
 
-array-read-cell-at-4 : tie.Need-array-read-cell-at-4
-array-read-cell-at-4 c = search needs
+array-read-cell-at : tie.Need-array-read-cell-at Inv-loop μ-loop
+array-read-cell-at c = search needs
 
-cell-at-requires-2 : tie.Need-cell-at-requires-2
-cell-at-requires-2 c κs = search needs
+mul-cell-at-2 : tie.Need-mul-cell-at-2 Inv-loop μ-loop
+mul-cell-at-2 c = search needs
 
-array-write-row-2 : tie.Need-array-write-row-2
-array-write-row-2 c = search needs
+array-read-cell-at-2 : tie.Need-array-read-cell-at-2 Inv-loop μ-loop
+array-read-cell-at-2 c = search needs
 
-add-cell-at-3 : tie.Need-add-cell-at-3
-add-cell-at-3 c = search needs
+cell-at-requires : tie.Need-cell-at-requires Inv-loop μ-loop
+cell-at-requires c κs = search needs
 
-sub-cell-at-2 : tie.Need-sub-cell-at-2
-sub-cell-at-2 c = search needs
+mul-row : tie.Need-mul-row Inv-loop μ-loop
+mul-row c = search needs
 
-array-read-cell-at-5 : tie.Need-array-read-cell-at-5
-array-read-cell-at-5 c = search needs
+array-write-row : tie.Need-array-write-row Inv-loop μ-loop
+array-write-row c = search needs
 
-array-read-cell-at-6 : tie.Need-array-read-cell-at-6
-array-read-cell-at-6 c = search needs
+add-k : tie.Need-add-k Inv-loop μ-loop
+add-k c = search needs
 
-cell-at-requires-3 : tie.Need-cell-at-requires-3
-cell-at-requires-3 c κs = search needs
+loop-less : tie.Need-loop-less Inv-loop μ-loop
+loop-less c = search needs
 
-array-write-row-3 : tie.Need-array-write-row-3
-array-write-row-3 c = search needs
+loop-again : tie.Need-loop-again Inv-loop μ-loop
+loop-again c = (omega arith, written)
+  where
+    written :
+        (ps : List ℤ) → let x = c .before .before .before .before .args in
+        HoldsRow (x .degree) (now (x .knots)) ps (x .t) (x .span) (x .r) (x .t1)
+        → Overwritten (x .degree) (now (x .knots)) ps (x .t) (x .span) (x .r) (c .before .before .loop .k + 1) (c .if1 .row)
+    written ps h =
+        let x = c .before .before .before .before .args in
+        let at = c .before .before .loop in
+        let so-far = at .inv .1 ps h in
+        let After = Overwritten (x .degree) (now (x .knots)) ps (x .t) (x .span) (x .r) (at .k + 1) in
+        ⊎-elim
+        (λ w. subst After (sym (w .2)) (one-more so-far (w .1 .ensures) (omega arith) (omega (arith, w .0 .taken)) (omega (arith, w .0 .taken)) (omega arith)))
+        (λ w. subst After (sym (w .1)) (none-more so-far (omega (arith, w .0 .left))))
+        (c .if1 .came)
 
--- row r, as it came in
-abbrev Before : tie.Start → List ℤ → Type 0
-Before s ps = let x = s .args in HoldsRow (x .degree) (now (x .knots)) ps (x .t) (x .span) (x .r) (x .t1)
-
--- the row, once k places were looked at
-abbrev After : tie.Start → List ℤ → ℕ → List Float → Type 0
-After s ps k row = let x = s .args in Overwritten (x .degree) (now (x .knots)) ps (x .t) (x .span) (x .r) k row
-
-one : (c : tie.Joined1) (ps : List ℤ) → Before (c .before .before) ps → After (c .before .before) ps 1 (c .if1 .row)
-one c ps h =
-    let s = c .before .before in
-    let so-far = none-overwritten h in
-    ⊎-elim
-    (λ w. subst (After s ps 1) (sym (w .2)) (one-more so-far (w .1 .ensures) (omega arith) (omega arith) (omega (arith, w .0 .taken)) (omega arith)))
-    (λ w. subst (After s ps 1) (sym (w .1)) (none-more so-far (omega (arith, w .0 .left))))
-    (c .if1 .came)
-
-two : (c : tie.Joined2) (ps : List ℤ) → Before (c .before .before .before) ps → After (c .before .before .before) ps 2 (c .if2 .row)
-two c ps h =
-    let s = c .before .before .before in
-    let so-far = one (c .before) ps h in
-    ⊎-elim
-    (λ w. subst (After s ps 2) (sym (w .2)) (one-more so-far (w .1 .ensures) (omega arith) (omega arith) (omega (arith, w .0 .taken)) (omega arith)))
-    (λ w. subst (After s ps 2) (sym (w .1)) (none-more so-far (omega (arith, w .0 .left))))
-    (c .if2 .came)
-
-returns : tie.Need-returns
-returns c = λ ps h.
-    next-row-holds (one-more (two (c .before .before) ps h) (c .cell-at3 .ensures) (omega arith) (omega arith) (omega arith) (omega arith)) (omega arith)
-
-returns-2 : tie.Need-returns-2
-returns-2 c = λ ps h. next-row-holds (two (c .before) ps h) (omega arith)
+returns : tie.Need-returns Inv-loop μ-loop
+returns c = λ ps h. next-row-holds (c .before .loop .inv .1 ps h) (omega arith)
 
 pub next-row-spec : {M : Type 1} → statement M
 next-row-spec =
     tie.close
     (tie.spec
+    Inv-loop
+    μ-loop
     sub-entries
+    loop-holds
+    sub-place
+    add-j
+    sub-j
     add-cell-at
+    sub-cell-at
+    mul-cell-at
     array-read-cell-at
+    mul-cell-at-2
     array-read-cell-at-2
     cell-at-requires
+    mul-row
     array-write-row
-    add-cell-at-2
-    sub-cell-at
-    array-read-cell-at-3
-    array-read-cell-at-4
-    cell-at-requires-2
-    array-write-row-2
-    add-cell-at-3
-    sub-cell-at-2
-    array-read-cell-at-5
-    array-read-cell-at-6
-    cell-at-requires-3
-    array-write-row-3
-    returns
-    returns-2)
+    add-k
+    loop-less
+    loop-again
+    returns)
