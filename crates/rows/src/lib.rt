@@ -64,9 +64,8 @@ fn next_row(
     ensures answer { λ d. ⌜ ((ps : List ℤ) → HoldsRow degree (now (knots .entry)) ps t span r row
         → HoldsRow degree (now (knots .entry)) ps t span (r + 1) d) ⌝ }
 {
-    let entries = degree - r;
     for k in 0..3 {
-        if k < entries {
+        if r + k < degree {
             let place = 3 - k;
             let j = span + place - 3;
             row[place] = cell_at(knots, degree, r + 1, j, t, row[place - 1], row[place]);

@@ -13,17 +13,17 @@ use Rattle.rows.proofs.next_row.Statement.{statement}
 use Rattle.rows.proofs.next_row.Tie as tie
 
 abbrev Inv-loop : tie.InvT-loop
-Inv-loop knots degree span r t row₀ entries k₀ row k =
+Inv-loop knots degree span r t row₀ k₀ row k =
     (k ≤ 3) × ((ps : List ℤ) → HoldsRow degree knots ps t span r row₀ → Overwritten degree knots ps t span r k row)
 
 abbrev μ-loop : tie.MeasureT-loop
-μ-loop knots degree span r t row₀ entries k₀ row k = 3 - k
-
-sub-entries : tie.Need-sub-entries Inv-loop μ-loop
-sub-entries c = search needs
+μ-loop knots degree span r t row₀ k₀ row k = 3 - k
 
 loop-holds : tie.Need-loop-holds Inv-loop μ-loop
 loop-holds c = (omega arith, λ ps h. none-overwritten h)
+
+add-if1 : tie.Need-add-if1 Inv-loop μ-loop
+add-if1 c = search needs
 
 sub-place : tie.Need-sub-place Inv-loop μ-loop
 sub-place c = search needs
@@ -93,8 +93,8 @@ next-row-spec =
     (tie.spec
     Inv-loop
     μ-loop
-    sub-entries
     loop-holds
+    add-if1
     sub-place
     add-j
     sub-j
