@@ -17,7 +17,7 @@ if [ "${1-}" = all ]; then
 fi
 if [ $# -eq 0 ]; then
     set -- target/staticlib/libtsaghnobir.a target/obj/clampcheck.o
-    if [ ! -f "$1" ] || [ -n "$(find crates crates.txt -newer "$1" | head -n 1)" ]; then
+    if [ ! -f "$2" ] || [ ! -f "$1" ] || [ -n "$(find crates crates.txt -newer "$1" | head -n 1)" ]; then
         rt check clampcheck >&2
         rt staticlib tsaghnobir >&2
     fi
