@@ -17,7 +17,7 @@ WORD = 8  # a return address, a pushed register
 
 Instruction = namedtuple("Instruction", "at name operands")
 
-HEAD = re.compile(r"^[0-9a-f]+ <(.+)>:$")
+HEAD = re.compile(r"^([0-9a-f]+) <(.+)>:$")
 LINE = re.compile(r"^ *([0-9a-f]+):\s+([a-z][a-z0-9]*)\s*([^#<]*?)\s*(?:[#<].*)?$")
 RELOCATED = re.compile(r"^\s+[0-9a-f]+:\s+R_X86_64_(?:PLT|PC)32\s+(?:\.text\.)?(.+)-0x4$")
 GLOBAL = re.compile(r"^[0-9a-f]+ g +F \S+\s+[0-9a-f]+ (?:\.hidden )?(\S+)$")
@@ -100,7 +100,9 @@ def functions_in(listing):
         if global_one:
             offered.append(global_one[1])
         elif head:
-            one = functions[head[1]] = Function(head[1])
+            if int(head[1], 16) != 0:
+                raise NotFollowed("%s shares a section with another function" % head[2])
+            one = functions[head[2]] = Function(head[2])
         elif relocated and one.code[-1].name in ("callq", "jmp"):
             one.leads_to[len(one.code) - 1] = relocated[1]
         elif instruction and one is not None:
@@ -155,8 +157,10 @@ class Stacks:
 def figures(objdump, path, turns=None, every=False):
     """The functions that a file offers, or every one of its functions, each with its stack and the calls on its deepest way."""
     words = [str(objdump), "-d", "-r", "-t", "--no-show-raw-insn", str(path)]
-    listing = subprocess.run(words, stdout=subprocess.PIPE, check=True, text=True).stdout
-    functions, offered = functions_in(listing)
+    ran = subprocess.run(words, stdout=subprocess.PIPE, text=True)
+    functions, offered = functions_in(ran.stdout)
+    if ran.returncode != 0 or not offered or not functions.keys() >= set(offered):
+        raise NotFollowed("%s offers no function, or one without code" % path)
     stacks = Stacks(functions, turns or {})
     return [(name, *stacks.deepest(name)) for name in (functions if every else offered)]
 

@@ -43,6 +43,8 @@ REFUSED = [
     ("testq %rdi, %rdi; je 1f; pushq %rbx; 1: retq", "with two depths"),
     ("1: pushq %rbx; jmp 1b", "with two depths"),
     ("nop", "runs past its end"),
+    ("retq; .type two,@function; two: callq one; retq", "shares a section"),
+    (".data; .quad 0", "one without code"),
     ("pushq %rbx; callq one; popq %rbx; retq", "calls itself"),
     ("callq two; retq; .size one, .-one; .section .text.two,\"ax\",@progbits; .type two,@function; two: callq one; retq", "comes back to itself"),
 ]
