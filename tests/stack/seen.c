@@ -12,8 +12,9 @@
 
 #define PAINTED (1u << 17)
 #define PAINT 0xa5
-#define POINTS 1024
-#define KNOTS (POINTS + 4)
+#define POINTS TSB_POINTS_MOST
+#define KNOTS TSB_KNOTS_MOST
+#define JOINED TSB_SPLINE_POINTS_MOST
 
 unsigned char *seen_from;
 
@@ -42,7 +43,7 @@ SEEN(tsb_feed_end)
 
 /* a cubic on a straight line with simple inner knots, its record and places for results */
 static uint16_t knots[KNOTS], out_knots[KNOTS], lows[POINTS], highs[POINTS];
-static int32_t xs[POINTS], ys[POINTS], out_xs[POINTS], out_ys[POINTS], clamps[TSB_CLAMPS_MOST * 4], tangents[342];
+static int32_t xs[POINTS], ys[POINTS], out_xs[POINTS], out_ys[POINTS], clamps[TSB_CLAMPS_MOST * 4], tangents[JOINED];
 static uint8_t bytes[TSB_WORK_MOST], work[TSB_WORK_MOST];
 static size_t points, removed, length, place, clamp_count, received, first, count;
 static uint32_t degree;
@@ -67,7 +68,7 @@ static uint32_t feed_end(void)
 {
     return seen_tsb_feed_end(work, sizeof work, OUT, clamps, TSB_CLAMPS_MOST * 4, &degree, &points, &clamp_count, &place, &received);
 }
-static uint32_t join(void) { return seen_tsb_join(knots + 3, 342, xs, 342, ys, 342, tangents, 342, tangents, 342, OUT, &points); }
+static uint32_t join(void) { return seen_tsb_join(knots + 3, JOINED, xs, JOINED, ys, JOINED, tangents, JOINED, tangents, JOINED, OUT, &points); }
 
 /* Paints what lies below us, but for what this function itself may use. */
 static __attribute__((noinline)) void paint(void)
