@@ -7,7 +7,7 @@ use native.Mathlib.Omega.{arith}
 use lib.IntN.{ℤ, pos}
 use lib.ListN.{length, getD}
 use Rattle.spline_pieces.specs.Pieces.{Piece, pieceOf, pieceAt, piecesFrom, pieces}
-use Rattle.joined_curve.specs.Curve.{innerKnots, knotsAfter, joinedKnots, pointsAfter, joinedPoints}
+use Rattle.joined_curve.specs.Curve.{innerThrice, knotsAfter, joinedKnots, pointsAfter, joinedPoints}
 use Rattle.spline_pieces.proofs.PieceLaws.{piecesOn, pieces-all, pieces-more}
 
 -- three points for each piece
@@ -15,7 +15,7 @@ unfoldable pub threes : List Piece → List ℤ
 threes [] = []
 threes (piece ∷ rest) = piece .leaving ∷ piece .arriving ∷ piece .end ∷ threes rest
 
-after-threes : (piece : Piece) (rest : List Piece) → pointsAfter innerKnots piece rest ≡ threes (piece ∷ rest)
+after-threes : (piece : Piece) (rest : List Piece) → pointsAfter innerThrice piece rest ≡ threes (piece ∷ rest)
 unfolding pointsAfter threes
 after-threes piece [] = refl
 after-threes piece (next ∷ rest) = ap (λ l. piece .leaving ∷ piece .arriving ∷ piece .end ∷ l) (after-threes next rest)
@@ -26,20 +26,20 @@ knotsLeft ss i zero = getD ss i 0 ∷ []
 knotsLeft ss i (suc count) = getD ss (suc i) 0 ∷ getD ss (suc i) 0 ∷ getD ss (suc i) 0 ∷ knotsLeft ss (suc i) count
 
 knots-left : (ss : List ℕ) (ps ds : List ℤ) (i count : ℕ)
-    → knotsAfter innerKnots (pieceAt ss ps ds i) (piecesFrom ss ps ds (suc i) count) ≡ knotsLeft ss i (suc count)
+    → knotsAfter innerThrice (pieceAt ss ps ds i) (piecesFrom ss ps ds (suc i) count) ≡ knotsLeft ss i (suc count)
 unfolding knotsAfter knotsLeft piecesFrom pieceAt pieceOf
 knots-left ss ps ds i zero = refl
 knots-left ss ps ds i (suc count) =
     ap (λ l. getD ss (suc i) 0 ∷ getD ss (suc i) 0 ∷ getD ss (suc i) 0 ∷ l) (knots-left ss ps ds (suc i) count)
 
 module _ (ss : List ℕ) (ps ds : List ℤ) (some : 2 ≤ length ss) where
-  pub points-are : joinedPoints innerKnots (pieces ss ps ds) ≡ getD ps 0 (pos 0) ∷ threes (piecesOn ss ps ds 0)
+  pub points-are : joinedPoints innerThrice (pieces ss ps ds) ≡ getD ps 0 (pos 0) ∷ threes (piecesOn ss ps ds 0)
   unfolding joinedPoints pieceAt pieceOf
   points-are =
       rw (pieces-all ss ps ds, pieces-more ss ps ds 0 (omega arith))
       (ap (λ l. getD ps 0 (pos 0) ∷ l) (after-threes (pieceAt ss ps ds 0) (piecesOn ss ps ds 1)))
 
-  pub knots-are : joinedKnots innerKnots (pieces ss ps ds)
+  pub knots-are : joinedKnots innerThrice (pieces ss ps ds)
       ≡ getD ss 0 0 ∷ getD ss 0 0 ∷ getD ss 0 0 ∷ getD ss 0 0 ∷ knotsLeft ss 0 (length ss - 1)
   unfolding joinedKnots pieceAt pieceOf
   knots-are =
@@ -60,8 +60,8 @@ knotsLeft-length ss i zero = refl
 knotsLeft-length ss i (suc count) = omega (arith, knotsLeft-length ss (suc i) count)
 
 module _ (ss : List ℕ) (ps ds : List ℤ) (some : 2 ≤ length ss) where
-  pub points-length : length (joinedPoints innerKnots (pieces ss ps ds)) ≡ 3 * length ss - 2
+  pub points-length : length (joinedPoints innerThrice (pieces ss ps ds)) ≡ 3 * length ss - 2
   points-length = rw (points-are ss ps ds some) (omega (arith, threes-length ss ps ds 0 (length ss - 1 - 0)))
 
-  pub knots-length : length (joinedKnots innerKnots (pieces ss ps ds)) ≡ 3 * length ss + 2
+  pub knots-length : length (joinedKnots innerThrice (pieces ss ps ds)) ≡ 3 * length ss + 2
   knots-length = rw (knots-are ss ps ds some) (omega (arith, knotsLeft-length ss 0 (length ss - 1)))

@@ -6,7 +6,7 @@ use native.Mathlib.Omega.{arith}
 use lib.IntN.{ℤ}
 use lib.ListN.{length, getD}
 use Rattle.spline_pieces.specs.Pieces.{pieces}
-use Rattle.joined_curve.specs.Curve.{innerKnots, joinedKnots}
+use Rattle.joined_curve.specs.Curve.{innerThrice, joinedKnots}
 use Rattle.joined_curve.proofs.CurveLaws.{knotsLeft, knots-are}
 
 -- the r-th of three equal entries at the front
@@ -39,7 +39,7 @@ left-last ss (suc count) i =
     rw (here, next) (left-last ss count (suc i))
 
 module _ (ss : List ℕ) (ps ds : List ℤ) (some : 2 ≤ length ss) where
-  pub knot-at : (i r : ℕ) → i < length ss → r < 3 → getD (joinedKnots innerKnots (pieces ss ps ds)) (3 * i + 1 + r) 0 ≡ getD ss i 0
+  pub knot-at : (i r : ℕ) → i < length ss → r < 3 → getD (joinedKnots innerThrice (pieces ss ps ds)) (3 * i + 1 + r) 0 ≡ getD ss i 0
   knot-at zero r h few =
       let here : 3 * zero + 1 + r ≡ suc r = omega arith in
       rw (knots-are ss ps ds some, here) (front-three (getD ss 0 0) 0 (knotsLeft ss 0 (length ss - 1)) r few)
@@ -48,20 +48,20 @@ module _ (ss : List ℕ) (ps ds : List ℤ) (some : 2 ≤ length ss) where
       let next : suc k ≡ 0 + k + 1 = omega arith in
       rw (knots-are ss ps ds some, here, next) (left-at ss (length ss - 1) 0 k r (omega arith) few)
 
-  pub knot-first : getD (joinedKnots innerKnots (pieces ss ps ds)) 0 0 ≡ getD ss 0 0
+  pub knot-first : getD (joinedKnots innerThrice (pieces ss ps ds)) 0 0 ≡ getD ss 0 0
   knot-first = rw (knots-are ss ps ds some)
 
-  pub knot-last : getD (joinedKnots innerKnots (pieces ss ps ds)) (3 * length ss + 1) 0 ≡ getD ss (length ss - 1) 0
+  pub knot-last : getD (joinedKnots innerThrice (pieces ss ps ds)) (3 * length ss + 1) 0 ≡ getD ss (length ss - 1) 0
   knot-last =
       let here : 3 * length ss + 1 ≡ suc (suc (suc (suc (3 * (length ss - 1))))) = omega arith in
       let next : length ss - 1 ≡ 0 + (length ss - 1) = omega arith in
-      ap (λ j. getD (joinedKnots innerKnots (pieces ss ps ds)) j 0) here
+      ap (λ j. getD (joinedKnots innerThrice (pieces ss ps ds)) j 0) here
       ∙ ap (λ l. getD l (suc (suc (suc (suc (3 * (length ss - 1)))))) 0) (knots-are ss ps ds some)
       ∙ left-last ss (length ss - 1) 0
       ∙ ap (λ j. getD ss j 0) (sym next)
 
   -- the knot at any place j but the first, by the third (j - 1) / 3 that it stands in
-  pub knot-inside : (j : ℕ) → 0 < j → (j - 1) / 3 < length ss → getD (joinedKnots innerKnots (pieces ss ps ds)) j 0 ≡ getD ss ((j - 1) / 3) 0
+  pub knot-inside : (j : ℕ) → 0 < j → (j - 1) / 3 < length ss → getD (joinedKnots innerThrice (pieces ss ps ds)) j 0 ≡ getD ss ((j - 1) / 3) 0
   knot-inside j from inside =
       let here : j ≡ 3 * ((j - 1) / 3) + 1 + (j - 1) % 3 = omega arith in
-      ap (λ k. getD (joinedKnots innerKnots (pieces ss ps ds)) k 0) here ∙ knot-at ((j - 1) / 3) ((j - 1) % 3) inside (omega arith)
+      ap (λ k. getD (joinedKnots innerThrice (pieces ss ps ds)) k 0) here ∙ knot-at ((j - 1) / 3) ((j - 1) % 3) inside (omega arith)

@@ -6,7 +6,7 @@ use native.Mathlib.Omega.{arith}
 use lib.IntN.{ℤ, pos}
 use lib.ListN.{length, getD}
 use Rattle.spline_pieces.specs.Pieces.{pieceOf, pieceAt, piecesFrom, pieces}
-use Rattle.joined_curve.specs.Curve.{innerKnots, joinedPoints}
+use Rattle.joined_curve.specs.Curve.{innerThrice, joinedPoints}
 use Rattle.joined_curve.proofs.CurveLaws.{threes, points-are}
 
 -- the three points of piece i + k after its start
@@ -29,7 +29,7 @@ module _ (ss : List ℕ) (ps ds : List ℤ) where
 
 module _ (ss : List ℕ) (ps ds : List ℤ) (some : 2 ≤ length ss) where
   abbrev joined : List ℤ
-  joined = joinedPoints innerKnots (pieces ss ps ds)
+  joined = joinedPoints innerThrice (pieces ss ps ds)
 
   behind : (j : ℕ) → getD joined (suc j) (pos 0) ≡ getD (threes (piecesFrom ss ps ds 0 (length ss - 1 - 0))) j (pos 0)
   behind j = ap (λ l. getD l (suc j) (pos 0)) (points-are ss ps ds some)

@@ -12,7 +12,7 @@ use Rattle.spline_pieces.specs.Sentences.{widthOf}
 use Rattle.spline_pieces.proofs.GridLaws.{allOnGrid-at, inner-decide}
 use Rattle.spline_pieces.proofs.PieceLaws.{pieces-all}
 use Rattle.spline_pieces.proofs.SentenceLaws.{whole-judged}
-use Rattle.joined_curve.specs.Curve.{innerKnots, joinedKnots, joinedPoints}
+use Rattle.joined_curve.specs.Curve.{innerThrice, joinedKnots, joinedPoints}
 use Rattle.joined_curve.specs.Sentences.{KnotsOf, PointsOf}
 use Rattle.joined_curve.proofs.CurveLaws.{threes, points-are, points-length, knots-length}
 use Rattle.joined_curve.proofs.KnotLaws.{knot-at, knot-first, knot-last}
@@ -30,7 +30,7 @@ way-to q t =
     ∙ +ℤ-idl t
 
 module _ (ss : List ℕ) (ps ds : List ℤ) (some : 2 ≤ length ss) where
-  pub joined-knots : KnotsOf ss (joinedKnots innerKnots (pieces ss ps ds))
+  pub joined-knots : KnotsOf ss (joinedKnots innerThrice (pieces ss ps ds))
   joined-knots =
       record {
         count = knots-length ss ps ds some;
@@ -39,7 +39,7 @@ module _ (ss : List ℕ) (ps ds : List ℤ) (some : 2 ≤ length ss) where
         last = knot-last ss ps ds some;
       }
 
-  pub joined-points : allWhole (pieces ss ps ds) ≡ true → PointsOf ss ps ds (joinedPoints innerKnots (pieces ss ps ds))
+  pub joined-points : allWhole (pieces ss ps ds) ≡ true → PointsOf ss ps ds (joinedPoints innerThrice (pieces ss ps ds))
   unfolding pieceAt pieceOf
   joined-points whole =
       let thirds = whole-judged ss ps ds .passing whole in
@@ -71,7 +71,7 @@ module _ (ss : List ℕ) (ps ds : List ℤ) (ends : allOnGrid ps ≡ true) where
       rw (inner-decide ss ps ds i ends, allOnGrid-at ps ends (suc i), threes-on-grid count (suc i))
       (and-assoc (onGrid (pieceAt ss ps ds i .leaving)) (onGrid (pieceAt ss ps ds i .arriving)) (allOnGrid (threes (piecesFrom ss ps ds (suc i) count))))
 
-  pub joined-on-grid : 2 ≤ length ss → allPiecesOnGrid (pieces ss ps ds) ≡ allOnGrid (joinedPoints innerKnots (pieces ss ps ds))
+  pub joined-on-grid : 2 ≤ length ss → allPiecesOnGrid (pieces ss ps ds) ≡ allOnGrid (joinedPoints innerThrice (pieces ss ps ds))
   unfolding allOnGrid
   joined-on-grid some =
       rw (points-are ss ps ds some, allOnGrid-at ps ends 0, pieces-all ss ps ds) (threes-on-grid (length ss - 1 - 0) 0)

@@ -9,8 +9,11 @@ use Rattle.spline_pieces.specs.Pieces.{Piece}
 abbrev pub endKnots : ℕ  -- how often an end value stands
 endKnots = 4
 
-abbrev pub innerKnots : ℕ  -- how often an inner value stands where the meeting points stay
-innerKnots = 3
+abbrev pub innerTwice : ℕ  -- how often an inner value stands where the meeting points drop out: joining by default
+innerTwice = 2
+
+abbrev pub innerThrice : ℕ  -- how often an inner value stands where the meeting points stay: joining through the points
+innerThrice = 3
 
 unfoldable pub knotsAfter : ℕ → Piece → List Piece → List ℕ  -- the knots from the end of `piece` on, with the pieces that follow it
 knotsAfter inner piece [] = replicate endKnots (piece .high)

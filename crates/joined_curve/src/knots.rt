@@ -7,13 +7,13 @@ ghost use lib.ListN.{length, getD};
 ghost use Rattle.lent.specs.Lent.{over};
 ghost use Rattle.spline_pieces.specs.Pieces.{pieces};
 ghost use Rattle.spline_pieces.specs.Standing.{Rising};
-ghost use Rattle.joined_curve.specs.Curve.{innerKnots, joinedKnots};
+ghost use Rattle.joined_curve.specs.Curve.{innerThrice, joinedKnots};
 
 // Which of so many parameters knot j is: each stands three times, the first and the last once more.
 fn parameter_of(j: usize, count: usize) -> usize
     requires { ⌜ (2 ≤ count) × (j < 3 * count + 2) ⌝ }
     ensures answer { λ r. ⌜ (r < count) × ((ss : List ℕ) (ps ds : List ℤ) → length ss ≡ count
-        → getD ss r 0 ≡ getD (joinedKnots innerKnots (pieces ss ps ds)) j 0) ⌝ }
+        → getD ss r 0 ≡ getD (joinedKnots innerThrice (pieces ss ps ds)) j 0) ⌝ }
 {
     if j == 0 {
         return 0;
@@ -30,7 +30,7 @@ pub fn write_knots(params: &[u16], out: &mut [u16])
     requires { ⌜ Rising (now params) ⌝ }
     requires { ⌜ 3 * length (now params) + 2 ≤ length (now out) ⌝ }
     ensures result { λ _. ⌜ ((ps ds : List ℤ) → now (out .exit)
-        ≡ over (joinedKnots innerKnots (pieces (now (params .entry)) ps ds)) (now (out .entry))) ⌝ }
+        ≡ over (joinedKnots innerThrice (pieces (now (params .entry)) ps ds)) (now (out .entry))) ⌝ }
 {
     let count = 3 * params.len() + 2;
     let mut j = 0;

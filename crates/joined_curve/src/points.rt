@@ -8,7 +8,7 @@ ghost use Rattle.lent.specs.Lent.{over};
 ghost use Rattle.grid.specs.Rows.{onGrid};
 ghost use Rattle.spline_pieces.specs.Pieces.{pieces, allPiecesOnGrid};
 ghost use Rattle.spline_pieces.specs.Standing.{Axis};
-ghost use Rattle.joined_curve.specs.Curve.{innerKnots, joinedPoints};
+ghost use Rattle.joined_curve.specs.Curve.{innerThrice, joinedPoints};
 
 // A number of the grid in the type of coordinates.
 fn narrowed(z: i64) -> i32
@@ -23,7 +23,7 @@ fn joined_point(params: &[u16], ps: &[i32], ds: &[i32], j: usize) -> i32
     requires { ⌜ Axis (now params) (now ps) (now ds) ⌝ }
     requires { ⌜ allPiecesOnGrid (pieces (now params) (now ps) (now ds)) ≡ true ⌝ }
     requires { ⌜ j + 2 < 3 * length (now params) ⌝ }
-    ensures answer { λ r. ⌜ r ≡ getD (joinedPoints innerKnots (pieces (now (params .entry)) (now (ps .entry)) (now (ds .entry)))) j (pos 0) ⌝ }
+    ensures answer { λ r. ⌜ r ≡ getD (joinedPoints innerThrice (pieces (now (params .entry)) (now (ps .entry)) (now (ds .entry)))) j (pos 0) ⌝ }
 {
     let i = j / 3;
     let place = j % 3;
@@ -42,7 +42,7 @@ pub fn write_points(params: &[u16], ps: &[i32], ds: &[i32], out: &mut [i32])
     requires { ⌜ allPiecesOnGrid (pieces (now params) (now ps) (now ds)) ≡ true ⌝ }
     requires { ⌜ 3 * length (now params) ≤ length (now out) + 2 ⌝ }
     ensures result { λ _. ⌜ now (out .exit)
-        ≡ over (joinedPoints innerKnots (pieces (now (params .entry)) (now (ps .entry)) (now (ds .entry)))) (now (out .entry)) ⌝ }
+        ≡ over (joinedPoints innerThrice (pieces (now (params .entry)) (now (ps .entry)) (now (ds .entry)))) (now (out .entry)) ⌝ }
 {
     let count = 3 * params.len() - 2;
     let mut j = 0;

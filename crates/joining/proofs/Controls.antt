@@ -10,7 +10,7 @@ use Rattle.curve.specs.Lists.{Lists, lists}
 use Rattle.curve.specs.HandingOver.{enough}
 use Rattle.grid.specs.Rows.{onGrid, allOnGrid, rangeOk}
 use Rattle.spline_pieces.specs.Pieces.{pieces, piecesFrom, pieceAt, pieceOf, third, thirdWhole, everyPiece, pieceOnGrid}
-use Rattle.joined_curve.specs.Curve.{innerKnots, knotsAfter, joinedKnots, pointsAfter, joinedPoints}
+use Rattle.joined_curve.specs.Curve.{innerThrice, knotsAfter, joinedKnots, pointsAfter, joinedPoints}
 use Rattle.joining.specs.SplinePoints.{SplinePoints, splinePoints, splineCountOk, countsAgree, risesStrictlyFrom, splinePointsOk}
 use Rattle.joining.specs.Answer.{joinableThen, joinNumber, joinAnswer}
 use Rattle.joining.specs.declared.JoinAnswer.the-variants.{Joined, Refused}
@@ -28,22 +28,22 @@ from s x d = splinePoints (0 ∷ s ∷ []) (x ∷ pos 12 ∷ []) (pos 0 ∷ pos 
 abbrev room : ℕ → Lists
 room places = lists (replicate 8 0) (replicate places (pos 0)) (replicate 4 (pos 0))
 
-answers : joinNumber innerKnots (from 12 (pos 0) (pos 1)) (room 4)
+answers : joinNumber innerThrice (from 12 (pos 0) (pos 1)) (room 4)
     -- 17: one parameter twice, one that falls, the largest, one above it, a list too long
-    ∷ joinNumber innerKnots (from 0 (pos 0) (pos 1)) (room 4)
-    ∷ joinNumber innerKnots (splinePoints (5 ∷ 3 ∷ []) (pos 0 ∷ pos 0 ∷ []) (pos 0 ∷ pos 0 ∷ []) (pos 0 ∷ pos 0 ∷ []) (pos 0 ∷ pos 0 ∷ [])) (room 4)
-    ∷ joinNumber innerKnots (from 16383 (pos 0) (pos 0)) (room 4)
-    ∷ joinNumber innerKnots (from 16384 (pos 0) (pos 0)) (room 4)
-    ∷ joinNumber innerKnots (splinePoints (0 ∷ 3 ∷ []) (pos 0 ∷ pos 0 ∷ []) (pos 0 ∷ pos 0 ∷ []) (pos 0 ∷ pos 0 ∷ []) (pos 0 ∷ pos 0 ∷ pos 0 ∷ [])) (room 4)
+    ∷ joinNumber innerThrice (from 0 (pos 0) (pos 1)) (room 4)
+    ∷ joinNumber innerThrice (splinePoints (5 ∷ 3 ∷ []) (pos 0 ∷ pos 0 ∷ []) (pos 0 ∷ pos 0 ∷ []) (pos 0 ∷ pos 0 ∷ []) (pos 0 ∷ pos 0 ∷ [])) (room 4)
+    ∷ joinNumber innerThrice (from 16383 (pos 0) (pos 0)) (room 4)
+    ∷ joinNumber innerThrice (from 16384 (pos 0) (pos 0)) (room 4)
+    ∷ joinNumber innerThrice (splinePoints (0 ∷ 3 ∷ []) (pos 0 ∷ pos 0 ∷ []) (pos 0 ∷ pos 0 ∷ []) (pos 0 ∷ pos 0 ∷ []) (pos 0 ∷ pos 0 ∷ pos 0 ∷ [])) (room 4)
     -- 7 for a point and for a tangent, though the tangent's third is not whole
-    ∷ joinNumber innerKnots (from 4 (pos 262145) (pos 1)) (room 4)
-    ∷ joinNumber innerKnots (from 4 (pos 0) (negsuc 262144)) (room 4)
+    ∷ joinNumber innerThrice (from 4 (pos 262145) (pos 1)) (room 4)
+    ∷ joinNumber innerThrice (from 4 (pos 0) (negsuc 262144)) (room 4)
     -- 11, though a point would be off the grid as well
-    ∷ joinNumber innerKnots (from 4 (pos 262144) (pos 1)) (room 3)
+    ∷ joinNumber innerThrice (from 4 (pos 262144) (pos 1)) (room 3)
     -- 18, though there is no room
-    ∷ joinNumber innerKnots (from 3 (pos 262144) (pos 1)) (room 3)
+    ∷ joinNumber innerThrice (from 3 (pos 262144) (pos 1)) (room 3)
     -- 15
-    ∷ joinNumber innerKnots (from 12 (pos 0) (pos 1)) (room 3)
+    ∷ joinNumber innerThrice (from 12 (pos 0) (pos 1)) (room 3)
     ∷ []
     ≡ 0 ∷ 17 ∷ 17 ∷ 0 ∷ 17 ∷ 17 ∷ 7 ∷ 7 ∷ 11 ∷ 18 ∷ 15 ∷ []
 unfolding joinableThen splinePointsOk splineCountOk countsAgree risesStrictlyFrom rangeOk allOnGrid onGrid pieces piecesFrom pieceAt pieceOf third thirdWhole divides everyPiece pieceOnGrid enough joinedKnots knotsAfter joinedPoints pointsAfter

@@ -17,7 +17,7 @@ use Rattle.checked.proofs.TestLaws.{one-fails, Judged, fails-iff, leb-judged, e
 use Rattle.checked.proofs.GridLaws.{range-judged}
 use Rattle.spline_pieces.specs.Pieces.{allPiecesOnGrid}
 use Rattle.spline_pieces.proofs.SentenceLaws.{whole-judged}
-use Rattle.joined_curve.specs.Curve.{innerKnots}
+use Rattle.joined_curve.specs.Curve.{innerThrice}
 use Rattle.joined_curve.proofs.SentenceLaws.{joined-on-grid}
 use Rattle.joining.specs.SplinePoints.{SplinePoints, piecesX, piecesY, risesStrictlyFrom, splineCountOk, countsAgree, splinePointsOk}
 use Rattle.joining.specs.Answer.{joinedLists, joinableThen}
@@ -68,16 +68,16 @@ module _ (s : SplinePoints) where
 
   -- row 18, where 17 and 7 do not apply
   module _ (standing : splinePointsOk s ≡ true) (range : (rangeOk (s .xs) (s .ys) && rangeOk (s .dxs) (s .dys)) ≡ true) where
-    grid-same : (allPiecesOnGrid (piecesX s) && allPiecesOnGrid (piecesY s)) ≡ rangeOk (joinedLists innerKnots s .xs) (joinedLists innerKnots s .ys)
+    grid-same : (allPiecesOnGrid (piecesX s) && allPiecesOnGrid (piecesY s)) ≡ rangeOk (joinedLists innerThrice s .xs) (joinedLists innerThrice s .ys)
     unfolding rangeOk
     grid-same =
         let some = standing-of s standing .x-axis .rising .least in
         let on = points-on-grid s range in
         ap₂ _&&_ (joined-on-grid (s .params) (s .xs) (s .dxs) (on .0) some) (joined-on-grid (s .params) (s .ys) (s .dys) (on .1) some)
 
-    grid-fails : ((allPiecesOnGrid (piecesX s) && allPiecesOnGrid (piecesY s)) ≡ false) ↔ RangeWrong (joinedLists innerKnots s .xs) (joinedLists innerKnots s .ys)
+    grid-fails : ((allPiecesOnGrid (piecesX s) && allPiecesOnGrid (piecesY s)) ≡ false) ↔ RangeWrong (joinedLists innerThrice s .xs) (joinedLists innerThrice s .ys)
     grid-fails =
-        let j = fails-iff (range-judged (joinedLists innerKnots s .xs) (joinedLists innerKnots s .ys)) in
+        let j = fails-iff (range-judged (joinedLists innerThrice s .xs) (joinedLists innerThrice s .ys)) in
         ((λ e. j .0 (sym grid-same ∙ e)), (λ w. grid-same ∙ j .1 w))
 
 pub join-answers : JoinAnswersFirst
@@ -88,5 +88,5 @@ join-answers s lent =
     judged (fails-iff (both-judged (range-judged (s .xs) (s .ys)) (range-judged (s .dxs) (s .dys)))) λ range.
     judged (fails-iff (both-judged (whole-judged (s .params) (s .xs) (s .dxs)) (whole-judged (s .params) (s .ys) (s .dys)))) λ whole.
     judged (grid-fails s standing range) λ grid.
-    judged (fails-iff (room-judged (joinedLists innerKnots s) lent)) λ room.
+    judged (fails-iff (room-judged (joinedLists innerThrice s) lent)) λ room.
     accepts)

@@ -10,7 +10,7 @@ use Rattle.grid.specs.Limits.{knotMost, splinePointsLeast, splinePointsMost}
 use Rattle.curve.specs.Sentences.{RoomWrong}
 use Rattle.checked.specs.Sentences.{RangeWrong}
 use Rattle.spline_pieces.specs.Sentences.{NotWhole}
-use Rattle.joined_curve.specs.Curve.{innerKnots}
+use Rattle.joined_curve.specs.Curve.{innerThrice}
 use Rattle.joining.specs.SplinePoints.{SplinePoints}
 use Rattle.joining.specs.Answer.{joinedLists, joinNumber}
 
@@ -36,10 +36,10 @@ joinRows s lent =
     row 17 (SplinePointsWrong s)
     ∷ row 7 (RangeWrong (s .xs) (s .ys) ⊎ RangeWrong (s .dxs) (s .dys))
     ∷ row 11 (NotWhole (s .params) (s .dxs) ⊎ NotWhole (s .params) (s .dys))
-    ∷ row 18 (RangeWrong (joinedLists innerKnots s .xs) (joinedLists innerKnots s .ys))
-    ∷ row 15 (RoomWrong (joinedLists innerKnots s) lent)
+    ∷ row 18 (RangeWrong (joinedLists innerThrice s .xs) (joinedLists innerThrice s .ys))
+    ∷ row 15 (RoomWrong (joinedLists innerThrice s) lent)
     ∷ []
 
 -- joining answers n exactly when row n applies and none before it does, and 0 exactly when none applies
 abbrev pub JoinAnswersFirst : Type 0
-JoinAnswersFirst = (s : SplinePoints) (lent : Lists) → AnswersFirst (joinNumber innerKnots s lent) (joinRows s lent)
+JoinAnswersFirst = (s : SplinePoints) (lent : Lists) → AnswersFirst (joinNumber innerThrice s lent) (joinRows s lent)

@@ -4,7 +4,7 @@ mod spline_points;
 ghost use mathlib.Core.Path.{_≡_};
 ghost use Rattle.refusal.specs.Numbers.{accepted};
 ghost use Rattle.curve.specs.Lists.{lists};
-ghost use Rattle.joined_curve.specs.Curve.{innerKnots};
+ghost use Rattle.joined_curve.specs.Curve.{innerThrice};
 ghost use Rattle.joining.specs.SplinePoints.{splinePoints};
 ghost use Rattle.joining.specs.Answer.{joinableThen, JoinOutcome};
 
@@ -48,7 +48,7 @@ pub fn join_through_points(
     out_xs: &mut [i32],
     out_ys: &mut [i32],
 ) -> JoinAnswer
-    ensures answer { λ r. ⌜ JoinOutcome innerKnots
+    ensures answer { λ r. ⌜ JoinOutcome innerThrice
         (splinePoints (now (params .entry)) (now (xs .entry)) (now (ys .entry)) (now (dxs .entry)) (now (dys .entry)))
         (lists (now («out_knots» .entry)) (now («out_xs» .entry)) (now («out_ys» .entry))) r
         (lists (now («out_knots» .exit)) (now («out_xs» .exit)) (now («out_ys» .exit))) ⌝ }

@@ -24,7 +24,7 @@ use Rattle.exact.proofs.ExactLaws.{rationalKnot, rationalCoordinate, rationalPa
 use Rattle.spline_pieces.specs.Pieces.{pieceOf, pieceAt, pieces, allWhole}
 use Rattle.spline_pieces.specs.Standing.{Rising}
 use Rattle.spline_pieces.proofs.SentenceLaws.{whole-judged}
-use Rattle.joined_curve.specs.Curve.{innerKnots, joinedPoints}
+use Rattle.joined_curve.specs.Curve.{innerThrice, joinedPoints}
 use Rattle.joined_curve.proofs.CurveLaws.{points-length}
 use Rattle.joining_exact.specs.HermitePoint.{hermiteCoordinate}
 use Rattle.joined_curve.proofs.PointLaws.{leaving-is, arriving-is, point-is}
@@ -43,7 +43,7 @@ hermite-class ss ps ds i p q = simp (class-sum, class-product, class-negation, c
 module _ (ss : List ℕ) (ps ds : List ℤ) (rising : Rising ss) (all : allWhole (pieces ss ps ds) ≡ true) (i : ℕ) (inside : i + 1 < length ss) (p q : ℕ)
     (ts : List ℕ) (knots : (k r : ℕ) → k < length ss → r < 3 → getD ts (3 * k + 1 + r) 0 ≡ getD ss k 0) where
   abbrev us : List ℤ
-  us = joinedPoints innerKnots (pieces ss ps ds)
+  us = joinedPoints innerThrice (pieces ss ps ds)
 
   starts : (j : ℕ) → j ≤ 3 * i + 3 → 3 * i + 3 < j + 3 → rationalKnot ts j ≡ class (wholeN (getD ss i 0))
   starts j low high =

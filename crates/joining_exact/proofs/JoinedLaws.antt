@@ -21,7 +21,7 @@ use Rattle.exact.specs.ExactCurve.{exactAt}
 use Rattle.exact.proofs.ExactLaws.{rationalParameter}
 use Rattle.spline_pieces.specs.Pieces.{pieces, allWhole}
 use Rattle.spline_pieces.specs.Standing.{Rising}
-use Rattle.joined_curve.specs.Curve.{innerKnots, joinedPoints}
+use Rattle.joined_curve.specs.Curve.{innerThrice, joinedPoints}
 use Rattle.joined_curve.proofs.CurveLaws.{points-length, knots-length}
 use Rattle.joining.specs.Answer.{joinedLists}
 use Rattle.joining_exact.specs.HermitePoint.{hermiteCoordinate}
@@ -47,9 +47,9 @@ module _ (ss : List ℕ) (ps ds : List ℤ) (rising : Rising ss) (all : allWhole
     (count : length ts ≡ 3 * length ss + 2)
     (knots : (k r : ℕ) → k < length ss → r < 3 → getD ts (3 * k + 1 + r) 0 ≡ getD ss k 0)
     (ordered : (a b : ℕ) → a ≤ b → b < length ts → getD ts a 0 ≤ getD ts b 0)
-    (domain : getD ts 3 0 < getD ts (length (joinedPoints innerKnots (pieces ss ps ds))) 0) where
+    (domain : getD ts 3 0 < getD ts (length (joinedPoints innerThrice (pieces ss ps ds))) 0) where
   abbrev us : List ℤ
-  us = joinedPoints innerKnots (pieces ss ps ds)
+  us = joinedPoints innerThrice (pieces ss ps ds)
 
   size : length us ≡ 3 * length ss - 2
   size = points-length ss ps ds (rising .least)
@@ -141,8 +141,8 @@ join-is-hermite s lent e =
     let checked = joined-checked s lent e in
     let knots = knot-at ss (s .xs) (s .dxs) (rising .least) in
     let count = knots-length ss (s .xs) (s .dxs) (rising .least) in (
-      axis-is-hermite ss (s .xs) (s .dxs) rising (whole .0) (joinedLists innerKnots s .knots) count knots (checked .rising) (checked .domain),
-      axis-is-hermite ss (s .ys) (s .dys) rising (whole .1) (joinedLists innerKnots s .knots) count knots (checked .rising)
+      axis-is-hermite ss (s .xs) (s .dxs) rising (whole .0) (joinedLists innerThrice s .knots) count knots (checked .rising) (checked .domain),
+      axis-is-hermite ss (s .ys) (s .dys) rising (whole .1) (joinedLists innerThrice s .knots) count knots (checked .rising)
           (rw (← (checked .sizes .as-many)) at (checked .domain)),
     )
 
@@ -180,8 +180,8 @@ pub join-meets-points : JoinMeetsPoints
 join-meets-points s lent e i h =
     let rising = joined-rising s lent e in
     let cubics = join-is-hermite s lent e in (
-      meets-points (joinedLists innerKnots s .knots) (s .params) (joinedLists innerKnots s .xs) (s .xs) (s .dxs) rising (cubics .0) i h,
-      meets-points (joinedLists innerKnots s .knots) (s .params) (joinedLists innerKnots s .ys) (s .ys) (s .dys) rising (cubics .1) i h,
+      meets-points (joinedLists innerThrice s .knots) (s .params) (joinedLists innerThrice s .xs) (s .xs) (s .dxs) rising (cubics .0) i h,
+      meets-points (joinedLists innerThrice s .knots) (s .params) (joinedLists innerThrice s .ys) (s .ys) (s .dys) rising (cubics .1) i h,
     )
 
 pub join-has-entries : JoinHasEntries

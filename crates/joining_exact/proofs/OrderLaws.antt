@@ -12,7 +12,7 @@ use Rattle.grid.specs.Limits.{knotMost}
 use Rattle.grid.specs.Rows.{risesFrom, knotOrderOk}
 use Rattle.spline_pieces.specs.Pieces.{pieces}
 use Rattle.spline_pieces.specs.Standing.{Rising}
-use Rattle.joined_curve.specs.Curve.{innerKnots, joinedKnots}
+use Rattle.joined_curve.specs.Curve.{innerThrice, joinedKnots}
 use Rattle.joined_curve.proofs.CurveLaws.{knotsLeft, knots-are}
 
 -- one knot more in front
@@ -34,7 +34,7 @@ module _ (ss : List ℕ) (rising : Rising ss) (most : (i : ℕ) → getD ss i 0 
       (rises-more s s (s ∷ knotsLeft ss (suc i) count) (le-refl s) (most (suc i))
       (rises-more s s (knotsLeft ss (suc i) count) (le-refl s) (most (suc i)) (left-rises count (suc i) (omega arith))))
 
-  pub knots-rise : (ps ds : List ℤ) → knotOrderOk (joinedKnots innerKnots (pieces ss ps ds)) ≡ true
+  pub knots-rise : (ps ds : List ℤ) → knotOrderOk (joinedKnots innerThrice (pieces ss ps ds)) ≡ true
   unfolding knotOrderOk
   knots-rise ps ds =
       let s = getD ss 0 0 in

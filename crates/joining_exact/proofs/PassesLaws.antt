@@ -18,7 +18,7 @@ use Rattle.checked.proofs.GridLaws.{grid-each}
 use Rattle.checked.proofs.CheckedLaws.{passes-of-checked}
 use Rattle.spline_pieces.specs.Pieces.{pieces}
 use Rattle.spline_pieces.specs.Standing.{Rising}
-use Rattle.joined_curve.specs.Curve.{innerKnots, joinedKnots, joinedPoints}
+use Rattle.joined_curve.specs.Curve.{innerThrice, joinedKnots, joinedPoints}
 use Rattle.joined_curve.proofs.CurveLaws.{points-length, knots-length}
 use Rattle.joining.specs.SplinePoints.{SplinePoints}
 use Rattle.joining.specs.Answer.{joinedLists, joinNumber}
@@ -35,7 +35,7 @@ first-below ss rising (suc k) h = lt-trans (first-below ss rising k (omega arith
 
 module _ (ss : List ℕ) (ps ds : List ℤ) (rising : Rising ss) where
   abbrev ts : List ℕ
-  ts = joinedKnots innerKnots (pieces ss ps ds)
+  ts = joinedKnots innerThrice (pieces ss ps ds)
 
   starts : (a : ℕ) → a ≤ 3 → getD ts a 0 ≡ getD ts 0 0
   starts zero h = refl
@@ -63,24 +63,24 @@ module _ (ss : List ℕ) (ps ds : List ℤ) (rising : Rising ss) where
   first-is : firstKnot ts ≡ getD ss 0 0
   first-is = knot-first ss ps ds (rising .least)
 
-  domain-is : getD ts 3 0 < getD ts (length (joinedPoints innerKnots (pieces ss ps ds))) 0
+  domain-is : getD ts 3 0 < getD ts (length (joinedPoints innerThrice (pieces ss ps ds))) 0
   domain-is =
       let low = starts 3 (omega arith) ∙ first-is in
-      let high = ends (length (joinedPoints innerKnots (pieces ss ps ds))) (omega (arith, points-length ss ps ds (rising .least))) (omega (arith, points-length ss ps ds (rising .least))) in
+      let high = ends (length (joinedPoints innerThrice (pieces ss ps ds))) (omega (arith, points-length ss ps ds (rising .least))) (omega (arith, points-length ss ps ds (rising .least))) in
       let end : length ss - 1 ≡ suc (length ss - 2) = omega (arith, rising .least) in
       rw (low, high, end) (first-below ss rising (length ss - 2) (omega (arith, rising .least)))
 
-module _ (s : SplinePoints) (lent : Lists) (accepted : joinNumber innerKnots s lent ≡ 0) where
+module _ (s : SplinePoints) (lent : Lists) (accepted : joinNumber innerThrice s lent ≡ 0) where
   pub joined-joinable : Joinable s
-  joined-joinable = joinable-of s (roomNumber (joinedLists innerKnots s) lent) accepted
+  joined-joinable = joinable-of s (roomNumber (joinedLists innerThrice s) lent) accepted
 
   pub joined-rising : Rising (s .params)
   joined-rising = joined-joinable .standing .x-axis .rising
 
-  ordered : knotOrderOk (joinedLists innerKnots s .knots) ≡ true
+  ordered : knotOrderOk (joinedLists innerThrice s .knots) ≡ true
   ordered = knots-rise (s .params) joined-rising (joined-joinable .standing .largest) (s .xs) (s .dxs)
 
-  pub joined-checked : Checked 3 (joinedLists innerKnots s .knots) (joinedLists innerKnots s .xs) (joinedLists innerKnots s .ys)
+  pub joined-checked : Checked 3 (joinedLists innerThrice s .knots) (joinedLists innerThrice s .xs) (joinedLists innerThrice s .ys)
   unfolding knotOrderOk
   joined-checked =
       let ss = s .params in
@@ -101,16 +101,16 @@ module _ (s : SplinePoints) (lent : Lists) (accepted : joinNumber innerKnots s l
           most = omega (arith, us, joined-rising .most);
           knots = omega (arith, us, ks, some);
         };
-        rising = order-judged (joinedLists innerKnots s .knots) .passing ordered .0;
-        largest = order-judged (joinedLists innerKnots s .knots) .passing ordered .1;
+        rising = order-judged (joinedLists innerThrice s .knots) .passing ordered .0;
+        largest = order-judged (joinedLists innerThrice s .knots) .passing ordered .1;
         firsts = starts ss xs dxs joined-rising;
         lasts = λ a from to. ends ss xs dxs joined-rising a (omega (arith, us)) (omega (arith, ks)) ∙ sym (last-is ss xs dxs joined-rising);
         domain = domain-is ss xs dxs joined-rising;
         inner = λ v first last. repeats-inner ss joined-rising v xs dxs (λ e. first (e ∙ sym (first-is ss xs dxs joined-rising))) (λ e. last (e ∙ sym (last-is ss xs dxs joined-rising)));
         outer = λ v. repeats-outer ss joined-rising v xs dxs;
-        gridX = grid-each (joinedLists innerKnots s .xs) (sym (joined-on-grid ss xs dxs (grid .0) some) ∙ pieces-on-grid .0);
-        gridY = grid-each (joinedLists innerKnots s .ys) (sym (joined-on-grid ss (s .ys) (s .dys) (grid .1) some) ∙ pieces-on-grid .1);
+        gridX = grid-each (joinedLists innerThrice s .xs) (sym (joined-on-grid ss xs dxs (grid .0) some) ∙ pieces-on-grid .0);
+        gridY = grid-each (joinedLists innerThrice s .ys) (sym (joined-on-grid ss (s .ys) (s .dys) (grid .1) some) ∙ pieces-on-grid .1);
       }
 
-  pub joined-passes : Passes 3 (joinedLists innerKnots s .knots) (joinedLists innerKnots s .xs) (joinedLists innerKnots s .ys)
-  joined-passes = passes-of-checked 3 (joinedLists innerKnots s .knots) (joinedLists innerKnots s .xs) (joinedLists innerKnots s .ys) joined-checked
+  pub joined-passes : Passes 3 (joinedLists innerThrice s .knots) (joinedLists innerThrice s .xs) (joinedLists innerThrice s .ys)
+  joined-passes = passes-of-checked 3 (joinedLists innerThrice s .knots) (joinedLists innerThrice s .xs) (joinedLists innerThrice s .ys) joined-checked

@@ -11,7 +11,7 @@ use borrow.Author.Tests.{eqb-true, eqb-false, ne-eqb}
 use Rattle.grid.specs.Rows.{occurrences}
 use Rattle.spline_pieces.specs.Pieces.{pieces}
 use Rattle.spline_pieces.specs.Standing.{Rising}
-use Rattle.joined_curve.specs.Curve.{innerKnots, joinedKnots}
+use Rattle.joined_curve.specs.Curve.{innerThrice, joinedKnots}
 use Rattle.joined_curve.proofs.CurveLaws.{knotsLeft, knots-are}
 
 module _ (v t : ℕ) (l : List ℕ) where
@@ -84,7 +84,7 @@ module _ (ss : List ℕ) (rising : Rising ss) (v : ℕ) where
     count-is : length ss - 1 ≡ suc (length ss - 2)
     count-is = omega (arith, rising .least)
 
-    pub repeats-outer : occurrences v (joinedKnots innerKnots (pieces ss ps ds)) ≤ 4
+    pub repeats-outer : occurrences v (joinedKnots innerThrice (pieces ss ps ds)) ≤ 4
     repeats-outer =
         let s = getD ss 0 0 in
         let rest = knotsLeft ss 0 (suc (length ss - 2)) in
@@ -94,7 +94,7 @@ module _ (ss : List ℕ) (rising : Rising ss) (v : ℕ) where
         (λ e. omega (arith, one-more v s rest, none-left (length ss - 2) 0 inside (omega (arith, e, rising .rises 0 (omega (arith, rising .least))))))
         (λ ne. rw (other-one v s rest ne) (left-four (length ss - 2) 0 inside)))
 
-    pub repeats-inner : (v ≡ getD ss 0 0 → ⊥) → (v ≡ getD ss (length ss - 1) 0 → ⊥) → occurrences v (joinedKnots innerKnots (pieces ss ps ds)) ≤ 3
+    pub repeats-inner : (v ≡ getD ss 0 0 → ⊥) → (v ≡ getD ss (length ss - 1) 0 → ⊥) → occurrences v (joinedKnots innerThrice (pieces ss ps ds)) ≤ 3
     repeats-inner first last =
         let s = getD ss 0 0 in
         let rest = knotsLeft ss 0 (suc (length ss - 2)) in

@@ -10,7 +10,7 @@ use Rattle.curve.specs.HandingOver.{roomFor, roomNumber}
 use Rattle.curve.proofs.ListLaws.{lists-same}
 use Rattle.curve.proofs.RoomLaws.{enough-each}
 use Rattle.curve.proofs.HandingLaws.{handedOver-refused}
-use Rattle.joined_curve.specs.Curve.{innerKnots}
+use Rattle.joined_curve.specs.Curve.{innerThrice}
 use Rattle.joined_curve.proofs.CurveLaws.{points-length}
 use Rattle.joining.specs.SplinePoints.{splinePoints}
 use Rattle.joining.specs.Answer.{joinedLists, joinableThen}
@@ -28,10 +28,10 @@ returns c =
     let a = c .before .before .before .before .args in
     let s = splinePoints (a .params .now) (a .xs .now) (a .ys .now) (a .dxs .now) (a .dys .now) in
     let before = lists (a .out-knots .now) (a .out-xs .now) (a .out-ys .now) in
-    let number = joinable-refused s (roomNumber (joinedLists innerKnots s) before) (c .before .joinable-number .ensures) (c .if1 .taken) in
+    let number = joinable-refused s (roomNumber (joinedLists innerThrice s) before) (c .before .joinable-number .ensures) (c .if1 .taken) in
     record {
       answers = rw number (sym (answered-refused Joined Refused _ _ (c .if1 .taken)));
-      hands = rw number (sym (handedOver-refused _ (joinedLists innerKnots s) before (c .if1 .taken)));
+      hands = rw number (sym (handedOver-refused _ (joinedLists innerThrice s) before (c .if1 .taken)));
     }
 
 -- where the number is 0
@@ -58,7 +58,7 @@ room-for-requires c κs = search needs
 -- the code's test is row 15
 room : (c : tie.After-room-for) → let a = c .before .before .before .before .before .args in
     c .room-for .result
-    ≡ roomFor (joinedLists innerKnots (splinePoints (a .params .now) (a .xs .now) (a .ys .now) (a .dxs .now) (a .dys .now)))
+    ≡ roomFor (joinedLists innerThrice (splinePoints (a .params .now) (a .xs .now) (a .ys .now) (a .dxs .now) (a .dys .now)))
     (lists (a .out-knots .now) (a .out-xs .now) (a .out-ys .now))
 room c =
     let a = c .before .before .before .before .before .args in
@@ -71,7 +71,7 @@ returns-2 c =
     let a = c .before .before .before .before .before .before .args in
     let s = splinePoints (a .params .now) (a .xs .now) (a .ys .now) (a .dxs .now) (a .dys .now) in
     let before = lists (a .out-knots .now) (a .out-xs .now) (a .out-ys .now) in
-    let number = joinable-passed s (roomNumber (joinedLists innerKnots s) before) (none-before (c .before .before)) in
+    let number = joinable-passed s (roomNumber (joinedLists innerThrice s) before) (none-before (c .before .before)) in
     let short = test-failed (c .if2 .taken) (room (c .before)) in
     record { answers = rw (number, short); hands = rw (number, short) }
 
@@ -114,7 +114,7 @@ returns-3 c =
     let s = splinePoints (a .params .now) (a .xs .now) (a .ys .now) (a .dxs .now) (a .dys .now) in
     let before = lists (a .out-knots .now) (a .out-xs .now) (a .out-ys .now) in
     let least = joinable (e .before .before) .standing .x-axis .rising .least in
-    let number = joinable-passed s (roomNumber (joinedLists innerKnots s) before) (none-before (e .before .before)) in
+    let number = joinable-passed s (roomNumber (joinedLists innerThrice s) before) (none-before (e .before .before)) in
     let long = test-passed (e .if2 .left) (room (e .before)) in
     record {
       answers = rw (number, long) (ap Joined (sym (points-length (a .params .now) (a .xs .now) (a .dxs .now) least)));

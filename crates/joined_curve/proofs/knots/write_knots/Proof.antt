@@ -6,13 +6,13 @@ use native.Mathlib.Omega.{arith}
 use lib.IntN.{ℤ}
 use Rattle.lent.proofs.StoreLaws.{Stored, stored-length, stored-none, stored-more, stored-all}
 use Rattle.spline_pieces.specs.Pieces.{pieces}
-use Rattle.joined_curve.specs.Curve.{innerKnots, joinedKnots}
+use Rattle.joined_curve.specs.Curve.{innerThrice, joinedKnots}
 use Rattle.joined_curve.proofs.CurveLaws.{knots-length}
 use Rattle.joined_curve.proofs.knots.write_knots.Statement.{statement}
 use Rattle.joined_curve.proofs.knots.write_knots.Tie as tie
 
 abbrev Inv-loop : tie.InvT-loop
-Inv-loop params out₀ count j₀ out j = (ps ds : List ℤ) → Stored (joinedKnots innerKnots (pieces params ps ds)) out₀ out j
+Inv-loop params out₀ count j₀ out j = (ps ds : List ℤ) → Stored (joinedKnots innerThrice (pieces params ps ds)) out₀ out j
 
 abbrev μ-loop : tie.MeasureT-loop
 μ-loop params out₀ count j₀ out j = count - j

@@ -8,13 +8,13 @@ use mir.ValLaws.{toZ-ofZ}
 use borrow.Author.Needs.{sfits-of}
 use Rattle.lent.proofs.StoreLaws.{Stored, stored-length, stored-none, stored-more, stored-all}
 use Rattle.spline_pieces.specs.Pieces.{pieces}
-use Rattle.joined_curve.specs.Curve.{innerKnots, joinedPoints}
+use Rattle.joined_curve.specs.Curve.{innerThrice, joinedPoints}
 use Rattle.joined_curve.proofs.CurveLaws.{points-length}
 use Rattle.joined_curve.proofs.points.write_points.Statement.{statement}
 use Rattle.joined_curve.proofs.points.write_points.Tie as tie
 
 abbrev Inv-loop : tie.InvT-loop
-Inv-loop params ps ds out₀ count j₀ out j = Stored (joinedPoints innerKnots (pieces params ps ds)) out₀ out j
+Inv-loop params ps ds out₀ count j₀ out j = Stored (joinedPoints innerThrice (pieces params ps ds)) out₀ out j
 
 abbrev μ-loop : tie.MeasureT-loop
 μ-loop params ps ds out₀ count j₀ out j = count - j
