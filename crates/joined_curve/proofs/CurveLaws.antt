@@ -1,67 +1,100 @@
--- The joined curve entry by entry, where inner knots stand three times: the first point and three for each piece; the first knot four
--- times, each one after it three times, and the last once more. So its lengths.
-use mathlib.Core.List.{List, [], _∷_}
-use mathlib.Core.Path.{_≡_, refl, ap, _∙_}
+-- The joined curve cut at any piece: what stands before it, and what follows from it on. So its lengths.
+use mathlib.Core.List.{List, [], _∷_, _++_, append-assoc}
+use mathlib.Core.Path.{_≡_, refl, sym, ap, _∙_}
 use Prim.Native.Nat.{ℕ, zero, suc, _+_, _-_, _*_, _≤_}
+use native.Mathlib.Nat.{mul-zero, mul-suc}
 use native.Mathlib.Omega.{arith}
 use lib.IntN.{ℤ, pos}
-use lib.ListN.{length, getD}
+use lib.ListN.{length, getD, replicate, length-append, length-replicate}
 use Rattle.spline_pieces.specs.Pieces.{Piece, pieceOf, pieceAt, piecesFrom, pieces}
-use Rattle.joined_curve.specs.Curve.{innerThrice, knotsAfter, joinedKnots, pointsAfter, joinedPoints}
-use Rattle.spline_pieces.proofs.PieceLaws.{piecesOn, pieces-all, pieces-more}
+use Rattle.joined_curve.specs.Curve.{endKnots, knotsAfter, joinedKnots, pointsAfter, joinedPoints}
 
--- three points for each piece
-unfoldable pub threes : List Piece → List ℤ
-threes [] = []
-threes (piece ∷ rest) = piece .leaving ∷ piece .arriving ∷ piece .end ∷ threes rest
+-- the knots before the end of piece i, and those from it on with `count` pieces to come
+unfoldable pub knotsBefore : ℕ → List ℕ → ℕ → List ℕ
+knotsBefore inner ss zero = replicate endKnots (getD ss 0 0)
+knotsBefore inner ss (suc i) = knotsBefore inner ss i ++ replicate inner (getD ss (suc i) 0)
 
-after-threes : (piece : Piece) (rest : List Piece) → pointsAfter innerThrice piece rest ≡ threes (piece ∷ rest)
-unfolding pointsAfter threes
-after-threes piece [] = refl
-after-threes piece (next ∷ rest) = ap (λ l. piece .leaving ∷ piece .arriving ∷ piece .end ∷ l) (after-threes next rest)
+unfoldable pub knotsFrom : ℕ → List ℕ → ℕ → ℕ → List ℕ
+knotsFrom inner ss i zero = replicate endKnots (getD ss (suc i) 0)
+knotsFrom inner ss i (suc count) = replicate inner (getD ss (suc i) 0) ++ knotsFrom inner ss (suc i) count
 
--- the knots after those of piece i's start, with `count` pieces to come: three of each, then the last once more
-unfoldable pub knotsLeft : List ℕ → ℕ → ℕ → List ℕ
-knotsLeft ss i zero = getD ss i 0 ∷ []
-knotsLeft ss i (suc count) = getD ss (suc i) 0 ∷ getD ss (suc i) 0 ∷ getD ss (suc i) 0 ∷ knotsLeft ss (suc i) count
+-- the first two points of a piece after its start, and its end where it is a point of the curve
+unfoldable pub inPiece : ℕ → Piece → List ℤ
+inPiece inner piece = piece .leaving ∷ piece .arriving ∷ replicate (inner - 2) (piece .end)
 
-knots-left : (ss : List ℕ) (ps ds : List ℤ) (i count : ℕ)
-    → knotsAfter innerThrice (pieceAt ss ps ds i) (piecesFrom ss ps ds (suc i) count) ≡ knotsLeft ss i (suc count)
-unfolding knotsAfter knotsLeft piecesFrom pieceAt pieceOf
-knots-left ss ps ds i zero = refl
-knots-left ss ps ds i (suc count) =
-    ap (λ l. getD ss (suc i) 0 ∷ getD ss (suc i) 0 ∷ getD ss (suc i) 0 ∷ l) (knots-left ss ps ds (suc i) count)
+-- the points before the inner ones of piece i
+unfoldable pub pointsBefore : ℕ → List ℕ → List ℤ → List ℤ → ℕ → List ℤ
+pointsBefore inner ss ps ds zero = getD ps 0 (pos 0) ∷ []
+pointsBefore inner ss ps ds (suc i) = pointsBefore inner ss ps ds i ++ inPiece inner (pieceAt ss ps ds i)
 
-module _ (ss : List ℕ) (ps ds : List ℤ) (some : 2 ≤ length ss) where
-  pub points-are : joinedPoints innerThrice (pieces ss ps ds) ≡ getD ps 0 (pos 0) ∷ threes (piecesOn ss ps ds 0)
-  unfolding joinedPoints pieceAt pieceOf
-  points-are =
-      rw (pieces-all ss ps ds, pieces-more ss ps ds 0 (omega arith))
-      (ap (λ l. getD ps 0 (pos 0) ∷ l) (after-threes (pieceAt ss ps ds 0) (piecesOn ss ps ds 1)))
+-- the points from there on, with `count` pieces to come behind piece i
+abbrev pub pointsFrom : ℕ → List ℕ → List ℤ → List ℤ → ℕ → ℕ → List ℤ
+pointsFrom inner ss ps ds i count = pointsAfter inner (pieceAt ss ps ds i) (piecesFrom ss ps ds (suc i) count)
 
-  pub knots-are : joinedKnots innerThrice (pieces ss ps ds)
-      ≡ getD ss 0 0 ∷ getD ss 0 0 ∷ getD ss 0 0 ∷ getD ss 0 0 ∷ knotsLeft ss 0 (length ss - 1)
-  unfolding joinedKnots pieceAt pieceOf
-  knots-are =
-      let count : suc (length ss - 1 - 1) ≡ length ss - 1 = omega arith in
-      rw (pieces-all ss ps ds, pieces-more ss ps ds 0 (omega arith))
-      (ap (λ l. getD ss 0 0 ∷ getD ss 0 0 ∷ getD ss 0 0 ∷ getD ss 0 0 ∷ l)
-      (knots-left ss ps ds 0 (length ss - 1 - 1) ∙ ap (knotsLeft ss 0) count))
+module _ (inner : ℕ) (ss : List ℕ) (ps ds : List ℤ) where
+  after-is : (i count : ℕ) → knotsAfter inner (pieceAt ss ps ds i) (piecesFrom ss ps ds (suc i) count) ≡ knotsFrom inner ss i count
+  unfolding knotsAfter knotsFrom piecesFrom pieceAt pieceOf
+  after-is i zero = refl
+  after-is i (suc count) = ap (λ l. replicate inner (getD ss (suc i) 0) ++ l) (after-is (suc i) count)
 
--- how many there are
-threes-length : (ss : List ℕ) (ps ds : List ℤ) (i count : ℕ) → length (threes (piecesFrom ss ps ds i count)) ≡ 3 * count
-unfolding threes piecesFrom
-threes-length ss ps ds i zero = refl
-threes-length ss ps ds i (suc count) = omega (arith, threes-length ss ps ds (suc i) count)
+  -- one piece further
+  knots-on : (i count : ℕ) → knotsBefore inner ss i ++ knotsFrom inner ss i (suc count) ≡ knotsBefore inner ss (suc i) ++ knotsFrom inner ss (suc i) count
+  unfolding knotsBefore knotsFrom
+  knots-on i count = sym (append-assoc (knotsBefore inner ss i) (replicate inner (getD ss (suc i) 0)) (knotsFrom inner ss (suc i) count))
 
-knotsLeft-length : (ss : List ℕ) (i count : ℕ) → length (knotsLeft ss i count) ≡ 3 * count + 1
-unfolding knotsLeft
-knotsLeft-length ss i zero = refl
-knotsLeft-length ss i (suc count) = omega (arith, knotsLeft-length ss (suc i) count)
+  points-on : (i count : ℕ) → pointsBefore inner ss ps ds i ++ pointsFrom inner ss ps ds i (suc count) ≡ pointsBefore inner ss ps ds (suc i) ++ pointsFrom inner ss ps ds (suc i) count
+  unfolding pointsBefore inPiece pointsAfter piecesFrom
+  points-on i count = sym (append-assoc (pointsBefore inner ss ps ds i) (inPiece inner (pieceAt ss ps ds i)) (pointsFrom inner ss ps ds (suc i) count))
 
-module _ (ss : List ℕ) (ps ds : List ℤ) (some : 2 ≤ length ss) where
-  pub points-length : length (joinedPoints innerThrice (pieces ss ps ds)) ≡ 3 * length ss - 2
-  points-length = rw (points-are ss ps ds some) (omega (arith, threes-length ss ps ds 0 (length ss - 1 - 0)))
+  -- all pieces: the first, and those behind it
+  pieces-are : 2 ≤ length ss → pieces ss ps ds ≡ pieceAt ss ps ds 0 ∷ piecesFrom ss ps ds 1 (length ss - 2)
+  unfolding pieces piecesFrom
+  pieces-are some =
+      let count : length ss - 1 ≡ suc (length ss - 2) = omega arith in
+      rw count
 
-  pub knots-length : length (joinedKnots innerThrice (pieces ss ps ds)) ≡ 3 * length ss + 2
-  knots-length = rw (knots-are ss ps ds some) (omega (arith, knotsLeft-length ss 0 (length ss - 1)))
+  pub knots-cut : 2 ≤ length ss → (i count : ℕ) → i + count ≡ length ss - 2
+      → joinedKnots inner (pieces ss ps ds) ≡ knotsBefore inner ss i ++ knotsFrom inner ss i count
+  unfolding joinedKnots knotsBefore pieceAt pieceOf
+  knots-cut some zero count e =
+      let all : length ss - 2 ≡ count = omega arith in
+      rw (pieces-are some, all) (ap (λ l. replicate endKnots (getD ss 0 0) ++ l) (after-is 0 count))
+  knots-cut some (suc i) count e = knots-cut some i (suc count) (omega arith) ∙ knots-on i count
+
+  pub points-cut : 2 ≤ length ss → (i count : ℕ) → i + count ≡ length ss - 2
+      → joinedPoints inner (pieces ss ps ds) ≡ pointsBefore inner ss ps ds i ++ pointsFrom inner ss ps ds i count
+  unfolding joinedPoints pointsBefore pieceAt pieceOf
+  points-cut some zero count e =
+      let all : length ss - 2 ≡ count = omega arith in
+      rw (pieces-are some, all)
+  points-cut some (suc i) count e = points-cut some i (suc count) (omega arith) ∙ points-on i count
+
+  -- how many there are
+  pub knotsBefore-length : (i : ℕ) → length (knotsBefore inner ss i) ≡ inner * i + 4
+  unfolding knotsBefore
+  knotsBefore-length zero = omega (arith, mul-zero inner)
+  knotsBefore-length (suc i) =
+      length-append (knotsBefore inner ss i) (replicate inner (getD ss (suc i) 0))
+      ∙ omega (arith, knotsBefore-length i, length-replicate inner (getD ss (suc i) 0), mul-suc inner i)
+
+  pub knots-length : 2 ≤ length ss → length (joinedKnots inner (pieces ss ps ds)) ≡ inner * (length ss - 2) + 8
+  unfolding knotsFrom
+  knots-length some =
+      ap length (knots-cut some (length ss - 2) 0 (omega arith))
+      ∙ length-append (knotsBefore inner ss (length ss - 2)) (knotsFrom inner ss (length ss - 2) 0)
+      ∙ omega (arith, knotsBefore-length (length ss - 2))
+
+module _ (inner : ℕ) (least : 2 ≤ inner) (ss : List ℕ) (ps ds : List ℤ) where
+  pub pointsBefore-length : (i : ℕ) → length (pointsBefore inner ss ps ds i) ≡ inner * i + 1
+  unfolding pointsBefore inPiece
+  pointsBefore-length zero = omega (arith, mul-zero inner)
+  pointsBefore-length (suc i) =
+      length-append (pointsBefore inner ss ps ds i) (inPiece inner (pieceAt ss ps ds i))
+      ∙ omega (arith, pointsBefore-length i, length-replicate (inner - 2) (pieceAt ss ps ds i .end), mul-suc inner i)
+
+  pub points-length : 2 ≤ length ss → length (joinedPoints inner (pieces ss ps ds)) ≡ inner * (length ss - 2) + 4
+  unfolding pointsAfter piecesFrom
+  points-length some =
+      ap length (points-cut inner ss ps ds some (length ss - 2) 0 (omega arith))
+      ∙ length-append (pointsBefore inner ss ps ds (length ss - 2)) (pointsFrom inner ss ps ds (length ss - 2) 0)
+      ∙ omega (arith, pointsBefore-length (length ss - 2))

@@ -4,4 +4,6 @@ pub mod GridLaws
 pub mod KnotLaws
 pub mod PointLaws
 pub mod SentenceLaws
+mod PutLaws
+mod GrowthLaws
 mod Controls

@@ -1,61 +1,77 @@
--- The joined points by index: P_i stands at 3·i, and the two inner points of piece i at the two places behind it.
-use mathlib.Core.List.{List}
-use mathlib.Core.Path.{_≡_, refl, ap, _∙_}
+-- The joined points by index: the inner points of piece i stand at inner·i + 1 and inner·i + 2, and its end behind them where it is a point of the curve.
+use mathlib.Core.List.{List, [], _∷_, _++_}
+use mathlib.Core.Path.{_≡_, refl, sym, ap, _∙_}
 use Prim.Native.Nat.{ℕ, zero, suc, _+_, _-_, _*_, _≤_, _<_}
+use native.Mathlib.Nat.{mul-suc}
 use native.Mathlib.Omega.{arith}
 use lib.IntN.{ℤ, pos}
 use lib.ListN.{length, getD}
-use Rattle.spline_pieces.specs.Pieces.{pieceOf, pieceAt, piecesFrom, pieces}
-use Rattle.joined_curve.specs.Curve.{innerThrice, joinedPoints}
-use Rattle.joined_curve.proofs.CurveLaws.{threes, points-are}
+use lib.Seq.{getD-append-add}
+use Rattle.spline_pieces.specs.Pieces.{Piece, pieceOf, pieceAt, piecesFrom, pieces}
+use Rattle.joined_curve.specs.Curve.{innerThrice, pointsAfter, joinedPoints}
+use Rattle.joined_curve.proofs.CurveLaws.{pointsBefore, pointsFrom, points-cut, pointsBefore-length}
 
--- the three points of piece i + k after its start
-module _ (ss : List ℕ) (ps ds : List ℤ) where
-  threes-at : (count i k : ℕ) → k < count
-      → (getD (threes (piecesFrom ss ps ds i count)) (3 * k) (pos 0) ≡ pieceAt ss ps ds (i + k) .leaving)
-      × (getD (threes (piecesFrom ss ps ds i count)) (3 * k + 1) (pos 0) ≡ pieceAt ss ps ds (i + k) .arriving)
-      × (getD (threes (piecesFrom ss ps ds i count)) (3 * k + 2) (pos 0) ≡ pieceAt ss ps ds (i + k) .end)
-  unfolding threes piecesFrom
-  threes-at zero i k h = absurd (omega arith)
-  threes-at (suc count) i zero h =
-      let here : i + zero ≡ i = omega arith in
-      rw here (refl, refl, refl)
-  threes-at (suc count) i (suc k) h =
-      let first : 3 * suc k ≡ suc (suc (suc (3 * k))) = omega arith in
-      let second : 3 * suc k + 1 ≡ suc (suc (suc (3 * k + 1))) = omega arith in
-      let third : 3 * suc k + 2 ≡ suc (suc (suc (3 * k + 2))) = omega arith in
-      let later : i + suc k ≡ suc i + k = omega arith in
-      rw (second, third, first, later) (threes-at count (suc i) k (omega arith))
+-- the first two points after a piece's start are its inner ones, whatever follows
+after-first : (inner : ℕ) (piece : Piece) (rest : List Piece) → getD (pointsAfter inner piece rest) 0 (pos 0) ≡ piece .leaving
+unfolding pointsAfter
+after-first inner piece [] = refl
+after-first inner piece (next ∷ rest) = refl
 
-module _ (ss : List ℕ) (ps ds : List ℤ) (some : 2 ≤ length ss) where
+after-second : (inner : ℕ) (piece : Piece) (rest : List Piece) → getD (pointsAfter inner piece rest) 1 (pos 0) ≡ piece .arriving
+unfolding pointsAfter
+after-second inner piece [] = refl
+after-second inner piece (next ∷ rest) = refl
+
+-- the third is its end, where the meeting points stay or the curve ends
+after-third : (piece : Piece) (rest : List Piece) → getD (pointsAfter innerThrice piece rest) 2 (pos 0) ≡ piece .end
+unfolding pointsAfter
+after-third piece [] = refl
+after-third piece (next ∷ rest) = refl
+
+module _ (inner : ℕ) (least : 2 ≤ inner) (ss : List ℕ) (ps ds : List ℤ) (some : 2 ≤ length ss) where
   abbrev joined : List ℤ
-  joined = joinedPoints innerThrice (pieces ss ps ds)
+  joined = joinedPoints inner (pieces ss ps ds)
 
-  behind : (j : ℕ) → getD joined (suc j) (pos 0) ≡ getD (threes (piecesFrom ss ps ds 0 (length ss - 1 - 0))) j (pos 0)
-  behind j = ap (λ l. getD l (suc j) (pos 0)) (points-are ss ps ds some)
+  -- an entry from the inner points of piece i on
+  behind : (i r : ℕ) → suc i < length ss → getD joined (inner * i + 1 + r) (pos 0) ≡ getD (pointsFrom inner ss ps ds i (length ss - 2 - i)) r (pos 0)
+  behind i r h =
+      let rest = length ss - 2 - i in
+      ap (λ l. getD l (inner * i + 1 + r) (pos 0)) (points-cut inner ss ps ds some i rest (omega arith))
+      ∙ ap (λ j. getD (pointsBefore inner ss ps ds i ++ pointsFrom inner ss ps ds i rest) (j + r) (pos 0)) (sym (pointsBefore-length inner least ss ps ds i))
+      ∙ getD-append-add (pointsBefore inner ss ps ds i) (pointsFrom inner ss ps ds i rest) r (pos 0)
 
-  piece-at : (i : ℕ) → i + 1 < length ss
-      → (getD joined (3 * i + 1) (pos 0) ≡ pieceAt ss ps ds i .leaving) × (getD joined (3 * i + 2) (pos 0) ≡ pieceAt ss ps ds i .arriving) × (getD joined (3 * i + 3) (pos 0) ≡ pieceAt ss ps ds i .end)
-  piece-at i h =
-      let all = threes-at ss ps ds (length ss - 1 - 0) 0 i (omega arith) in
-      let one : 3 * i + 1 ≡ suc (3 * i) = omega arith in
-      let two : 3 * i + 2 ≡ suc (3 * i + 1) = omega arith in
-      let three : 3 * i + 3 ≡ suc (3 * i + 2) = omega arith in
-      let here : 0 + i ≡ i = omega arith in (
-        ap (λ j. getD joined j (pos 0)) one ∙ behind (3 * i) ∙ all .0 ∙ ap (λ k. pieceAt ss ps ds k .leaving) here,
-        ap (λ j. getD joined j (pos 0)) two ∙ behind (3 * i + 1) ∙ all .1 ∙ ap (λ k. pieceAt ss ps ds k .arriving) here,
-        ap (λ j. getD joined j (pos 0)) three ∙ behind (3 * i + 2) ∙ all .2 ∙ ap (λ k. pieceAt ss ps ds k .end) here,
-      )
+  pub leaving-is : (i : ℕ) → suc i < length ss → getD joined (inner * i + 1) (pos 0) ≡ pieceAt ss ps ds i .leaving
+  leaving-is i h =
+      let here : inner * i + 1 ≡ inner * i + 1 + 0 = omega arith in
+      ap (λ j. getD joined j (pos 0)) here ∙ behind i 0 h ∙ after-first inner (pieceAt ss ps ds i) (piecesFrom ss ps ds (suc i) (length ss - 2 - i))
 
-  pub leaving-is : (i : ℕ) → i + 1 < length ss → getD joined (3 * i + 1) (pos 0) ≡ pieceAt ss ps ds i .leaving
-  leaving-is i h = piece-at i h .0
+  pub arriving-is : (i : ℕ) → suc i < length ss → getD joined (inner * i + 2) (pos 0) ≡ pieceAt ss ps ds i .arriving
+  arriving-is i h =
+      let here : inner * i + 2 ≡ inner * i + 1 + 1 = omega arith in
+      ap (λ j. getD joined j (pos 0)) here ∙ behind i 1 h ∙ after-second inner (pieceAt ss ps ds i) (piecesFrom ss ps ds (suc i) (length ss - 2 - i))
 
-  pub arriving-is : (i : ℕ) → i + 1 < length ss → getD joined (3 * i + 2) (pos 0) ≡ pieceAt ss ps ds i .arriving
-  arriving-is i h = piece-at i h .1
+  pub first-is : getD joined 0 (pos 0) ≡ getD ps 0 (pos 0)
+  unfolding pointsBefore
+  first-is = ap (λ l. getD l 0 (pos 0)) (points-cut inner ss ps ds some 0 (length ss - 2) (omega arith))
 
-  pub point-is : (i : ℕ) → i < length ss → getD joined (3 * i) (pos 0) ≡ getD ps i (pos 0)
+  pub last-is : getD joined (inner * (length ss - 2) + 3) (pos 0) ≡ getD ps (length ss - 1) (pos 0)
+  unfolding pointsAfter piecesFrom pieceAt pieceOf
+  last-is =
+      let here : inner * (length ss - 2) + 3 ≡ inner * (length ss - 2) + 1 + 2 = omega arith in
+      let none : length ss - 2 - (length ss - 2) ≡ 0 = omega arith in
+      let end : suc (length ss - 2) ≡ length ss - 1 = omega arith in
+      ap (λ j. getD joined j (pos 0)) here
+      ∙ behind (length ss - 2) 2 (omega arith)
+      ∙ ap (λ count. getD (pointsFrom inner ss ps ds (length ss - 2) count) 2 (pos 0)) none
+      ∙ ap (λ j. getD ps j (pos 0)) end
+
+-- where the meeting points stay, P_i stands at 3·i
+module _ (ss : List ℕ) (ps ds : List ℤ) (some : 2 ≤ length ss) where
+  pub point-is : (i : ℕ) → i < length ss → getD (joinedPoints innerThrice (pieces ss ps ds)) (3 * i) (pos 0) ≡ getD ps i (pos 0)
   unfolding pieceAt pieceOf
-  point-is zero h = ap (λ l. getD l 0 (pos 0)) (points-are ss ps ds some)
-  point-is (suc k) h =
-      let here : 3 * suc k ≡ 3 * k + 3 = omega arith in
-      ap (λ j. getD joined j (pos 0)) here ∙ piece-at k (omega arith) .2
+  point-is zero h = first-is 3 (omega arith) ss ps ds some
+  point-is (suc i) h =
+      let here : 3 * suc i ≡ 3 * i + 1 + 2 = omega arith in
+      ap (λ j. getD (joinedPoints innerThrice (pieces ss ps ds)) j (pos 0)) here
+      ∙ behind 3 (omega arith) ss ps ds some i 2 h
+      ∙ after-third (pieceAt ss ps ds i) (piecesFrom ss ps ds (suc i) (length ss - 2 - i))

@@ -1,22 +1,20 @@
--- The joined curve is what its sentences say, entry by entry; and its points are on the grid exactly where all points of the pieces are.
+-- The joined points are what their sentences say, entry by entry; and they are on the grid exactly where all points of the pieces are.
 use mathlib.Core.Bool.{Bool, true, false, _&&_}
-use mathlib.Core.List.{List}
+use mathlib.Core.List.{List, _++_}
 use mathlib.Core.Path.{_≡_, refl, sym, ap, _∙_}
-use Prim.Native.Nat.{ℕ, zero, suc, _-_, _≤_}
+use Prim.Native.Nat.{ℕ, zero, suc, _-_, _*_, _≤_, _<_}
 use native.Mathlib.Omega.{arith}
 use lib.IntN.{ℤ, pos, negℤ, _+ℤ_, _-ℤ_, _*ℤ_, +ℤ-comm, +ℤ-assoc, +ℤ-invr, +ℤ-idl, +ℤ-negℤ-cancel, negℤ-+ℤ, negℤ-negℤ}
-use lib.ListN.{length, getD}
+use lib.ListN.{length, getD, replicate}
 use Rattle.grid.specs.Rows.{onGrid, allOnGrid}
 use Rattle.spline_pieces.specs.Pieces.{third, pieceOf, pieceAt, piecesFrom, pieces, everyPiece, pieceOnGrid, allWhole, allPiecesOnGrid}
 use Rattle.spline_pieces.specs.Sentences.{widthOf}
 use Rattle.spline_pieces.proofs.GridLaws.{allOnGrid-at, inner-decide}
-use Rattle.spline_pieces.proofs.PieceLaws.{pieces-all}
 use Rattle.spline_pieces.proofs.SentenceLaws.{whole-judged}
-use Rattle.joined_curve.specs.Curve.{innerThrice, joinedKnots, joinedPoints}
-use Rattle.joined_curve.specs.Sentences.{KnotsOf, PointsOf}
-use Rattle.joined_curve.proofs.CurveLaws.{threes, points-are, points-length, knots-length}
-use Rattle.joined_curve.proofs.KnotLaws.{knot-at, knot-first, knot-last}
-use Rattle.joined_curve.proofs.PointLaws.{leaving-is, arriving-is, point-is}
+use Rattle.joined_curve.specs.Curve.{innerThrice, pointsAfter, joinedPoints}
+use Rattle.joined_curve.specs.Sentences.{PointsOf}
+use Rattle.joined_curve.proofs.CurveLaws.{pointsBefore, pointsFrom, points-cut, points-length}
+use Rattle.joined_curve.proofs.PointLaws.{leaving-is, arriving-is, first-is, last-is, point-is}
 
 -- the way from p to a point that is t further, and from a point that is t short of q
 way-from : (p t : ℤ) → p +ℤ t -ℤ p ≡ t
@@ -30,32 +28,28 @@ way-to q t =
     ∙ +ℤ-idl t
 
 module _ (ss : List ℕ) (ps ds : List ℤ) (some : 2 ≤ length ss) where
-  pub joined-knots : KnotsOf ss (joinedKnots innerThrice (pieces ss ps ds))
-  joined-knots =
-      record {
-        count = knots-length ss ps ds some;
-        first = knot-first ss ps ds some;
-        three = knot-at ss ps ds some;
-        last = knot-last ss ps ds some;
-      }
+  meets : (inner : ℕ) → inner ≡ innerThrice → (i : ℕ) → i < length ss → getD (joinedPoints inner (pieces ss ps ds)) (inner * i) (pos 0) ≡ getD ps i (pos 0)
+  meets inner three i h = rw three (point-is ss ps ds some i h)
 
-  pub joined-points : allWhole (pieces ss ps ds) ≡ true → PointsOf ss ps ds (joinedPoints innerThrice (pieces ss ps ds))
+  pub joined-points : (inner : ℕ) → 2 ≤ inner → allWhole (pieces ss ps ds) ≡ true → PointsOf inner ss ps ds (joinedPoints inner (pieces ss ps ds))
   unfolding pieceAt pieceOf
-  joined-points whole =
+  joined-points inner least whole =
       let thirds = whole-judged ss ps ds .passing whole in
       record {
-        count = omega (arith, points-length ss ps ds some);
-        meets = point-is ss ps ds some;
+        count = points-length inner least ss ps ds some;
+        first = first-is inner least ss ps ds some;
         leaves = λ i h.
             let t = third (widthOf ss i) (getD ds i (pos 0)) in
-            ap (λ z. (z -ℤ getD ps i (pos 0)) *ℤ pos 3) (leaving-is ss ps ds some i (omega arith))
+            ap (λ z. (z -ℤ getD ps i (pos 0)) *ℤ pos 3) (leaving-is inner least ss ps ds some i h)
             ∙ ap (λ z. z *ℤ pos 3) (way-from (getD ps i (pos 0)) t)
             ∙ thirds i h .0;
         arrives = λ i h.
             let t = third (widthOf ss i) (getD ds (suc i) (pos 0)) in
-            ap (λ z. (getD ps (suc i) (pos 0) -ℤ z) *ℤ pos 3) (arriving-is ss ps ds some i (omega arith))
+            ap (λ z. (getD ps (suc i) (pos 0) -ℤ z) *ℤ pos 3) (arriving-is inner least ss ps ds some i h)
             ∙ ap (λ z. z *ℤ pos 3) (way-to (getD ps (suc i) (pos 0)) t)
             ∙ thirds i h .1;
+        meets = meets inner;
+        last = last-is inner least ss ps ds some;
       }
 
 -- with spline points on the grid, the pieces are on it exactly where the joined points are
@@ -63,15 +57,24 @@ and-assoc : (a b c : Bool) → ((a && b) && c) ≡ (a && (b && c))
 and-assoc true b c = refl
 and-assoc false b c = refl
 
-module _ (ss : List ℕ) (ps ds : List ℤ) (ends : allOnGrid ps ≡ true) where
-  threes-on-grid : (count i : ℕ) → everyPiece pieceOnGrid (piecesFrom ss ps ds i count) ≡ allOnGrid (threes (piecesFrom ss ps ds i count))
-  unfolding everyPiece piecesFrom threes allOnGrid pieceAt pieceOf
-  threes-on-grid zero i = refl
-  threes-on-grid (suc count) i =
-      rw (inner-decide ss ps ds i ends, allOnGrid-at ps ends (suc i), threes-on-grid count (suc i))
-      (and-assoc (onGrid (pieceAt ss ps ds i .leaving)) (onGrid (pieceAt ss ps ds i .arriving)) (allOnGrid (threes (piecesFrom ss ps ds (suc i) count))))
+-- entries that are on the grid decide nothing
+same-on-grid : (n : ℕ) (z : ℤ) (l : List ℤ) → onGrid z ≡ true → allOnGrid (replicate n z ++ l) ≡ allOnGrid l
+unfolding allOnGrid
+same-on-grid zero z l e = refl
+same-on-grid (suc n) z l e = rw e (same-on-grid n z l e)
 
-  pub joined-on-grid : 2 ≤ length ss → allPiecesOnGrid (pieces ss ps ds) ≡ allOnGrid (joinedPoints innerThrice (pieces ss ps ds))
-  unfolding allOnGrid
+module _ (inner : ℕ) (ss : List ℕ) (ps ds : List ℤ) (ends : allOnGrid ps ≡ true) where
+  after-on-grid : (count i : ℕ) → everyPiece pieceOnGrid (piecesFrom ss ps ds i (suc count)) ≡ allOnGrid (pointsFrom inner ss ps ds i count)
+  unfolding everyPiece piecesFrom pointsAfter allOnGrid pieceAt pieceOf
+  after-on-grid zero i =
+      rw (inner-decide ss ps ds i ends, allOnGrid-at ps ends (suc i))
+      (and-assoc (onGrid (pieceAt ss ps ds i .leaving)) (onGrid (pieceAt ss ps ds i .arriving)) true)
+  after-on-grid (suc count) i =
+      rw (inner-decide ss ps ds i ends, after-on-grid count (suc i), same-on-grid (inner - 2) (getD ps (suc i) (pos 0)) (pointsFrom inner ss ps ds (suc i) count) (allOnGrid-at ps ends (suc i)))
+      (and-assoc (onGrid (pieceAt ss ps ds i .leaving)) (onGrid (pieceAt ss ps ds i .arriving)) (allOnGrid (pointsFrom inner ss ps ds (suc i) count)))
+
+  pub joined-on-grid : 2 ≤ length ss → allPiecesOnGrid (pieces ss ps ds) ≡ allOnGrid (joinedPoints inner (pieces ss ps ds))
+  unfolding allOnGrid pointsBefore pieces
   joined-on-grid some =
-      rw (points-are ss ps ds some, allOnGrid-at ps ends 0, pieces-all ss ps ds) (threes-on-grid (length ss - 1 - 0) 0)
+      let count : length ss - 1 ≡ suc (length ss - 2) = omega arith in
+      rw (points-cut inner ss ps ds some 0 (length ss - 2) (omega arith), allOnGrid-at ps ends 0, count) (after-on-grid (length ss - 2) 0)

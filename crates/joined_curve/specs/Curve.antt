@@ -1,7 +1,7 @@
 -- The curve of degree 3 that is taken from pieces (heading "Joining spline points"): its knots, and its points on one axis.
 -- `inner` says how often a knot stands where two pieces meet: 3 keeps the meeting point among the points, 2 leaves it out.
 use mathlib.Core.List.{List, [], _∷_, _++_}
-use Prim.Native.Nat.{ℕ, _-_}
+use Prim.Native.Nat.{ℕ, _-_, _≤_}
 use lib.IntN.{ℤ}
 use lib.ListN.{replicate}
 use Rattle.spline_pieces.specs.Pieces.{Piece}
@@ -14,6 +14,9 @@ innerTwice = 2
 
 abbrev pub innerThrice : ℕ  -- how often an inner value stands where the meeting points stay: joining through the points
 innerThrice = 3
+
+abbrev pub EitherNumber : ℕ → Type 0  -- one of the two: `inner` is 2 or 3
+EitherNumber inner = (innerTwice ≤ inner) × (inner ≤ innerThrice)
 
 unfoldable pub knotsAfter : ℕ → Piece → List Piece → List ℕ  -- the knots from the end of `piece` on, with the pieces that follow it
 knotsAfter inner piece [] = replicate endKnots (piece .high)

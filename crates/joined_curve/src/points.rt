@@ -1,14 +1,15 @@
 // The control points of one axis.
 ghost use mathlib.Core.Bool.{true};
+ghost use mathlib.Core.List.{[], _∷_};
 ghost use mathlib.Core.Path.{_≡_};
-ghost use Prim.Native.Nat.{_+_, _*_, _≤_, _<_};
-ghost use lib.IntN.{pos};
-ghost use lib.ListN.{length, getD};
+ghost use Prim.Native.Nat.{_+_, _-_, _*_, _≤_, _<_};
+ghost use lib.ListN.{length};
+ghost use lib.Seq.{sets};
 ghost use Rattle.lent.specs.Lent.{over};
 ghost use Rattle.grid.specs.Rows.{onGrid};
-ghost use Rattle.spline_pieces.specs.Pieces.{pieces, allPiecesOnGrid};
+ghost use Rattle.spline_pieces.specs.Pieces.{pieceAt, pieces, allPiecesOnGrid};
 ghost use Rattle.spline_pieces.specs.Standing.{Axis};
-ghost use Rattle.joined_curve.specs.Curve.{innerThrice, joinedPoints};
+ghost use Rattle.joined_curve.specs.Curve.{EitherNumber, joinedPoints};
 
 // A number of the grid in the type of coordinates.
 fn narrowed(z: i64) -> i32
@@ -18,36 +19,36 @@ fn narrowed(z: i64) -> i32
     z as i32
 }
 
-// Point j: each piece gives its start, the point that leaves it and the point that arrives at its end; the last end comes last.
-fn joined_point(params: &[u16], ps: &[i32], ds: &[i32], j: usize) -> i32
+// The points of piece i after its start, from place `at` on.
+fn put_piece(params: &[u16], ps: &[i32], ds: &[i32], i: usize, out: &mut [i32], at: usize)
     requires { ⌜ Axis (now params) (now ps) (now ds) ⌝ }
     requires { ⌜ allPiecesOnGrid (pieces (now params) (now ps) (now ds)) ≡ true ⌝ }
-    requires { ⌜ j + 2 < 3 * length (now params) ⌝ }
-    ensures answer { λ r. ⌜ r ≡ getD (joinedPoints innerThrice (pieces (now (params .entry)) (now (ps .entry)) (now (ds .entry)))) j (pos 0) ⌝ }
+    requires { ⌜ (i + 1 < length (now params)) × (at + 3 ≤ length (now out)) ⌝ }
+    ensures result { λ _. ⌜ now (out .exit)
+        ≡ sets (now (out .entry)) at (pieceAt (now (params .entry)) (now (ps .entry)) (now (ds .entry)) i .leaving
+        ∷ pieceAt (now (params .entry)) (now (ps .entry)) (now (ds .entry)) i .arriving
+        ∷ pieceAt (now (params .entry)) (now (ps .entry)) (now (ds .entry)) i .end ∷ []) ⌝ }
 {
-    let i = j / 3;
-    let place = j % 3;
-    if place == 0 {
-        return ps[i];
-    }
-    if place == 1 {
-        return narrowed(spline_pieces::leaving_point(params, ps, ds, i));
-    }
-    narrowed(spline_pieces::arriving_point(params, ps, ds, i))
+    out[at] = narrowed(spline_pieces::leaving_point(params, ps, ds, i));
+    out[at + 1] = narrowed(spline_pieces::arriving_point(params, ps, ds, i));
+    out[at + 2] = ps[i + 1];
 }
 
-// All points.
-pub fn write_points(params: &[u16], ps: &[i32], ds: &[i32], out: &mut [i32])
+// All points. Every piece is written as the last one; the next one is written over its end where the meeting point drops out.
+pub fn write_points(params: &[u16], ps: &[i32], ds: &[i32], inner: usize, out: &mut [i32])
     requires { ⌜ Axis (now params) (now ps) (now ds) ⌝ }
     requires { ⌜ allPiecesOnGrid (pieces (now params) (now ps) (now ds)) ≡ true ⌝ }
-    requires { ⌜ 3 * length (now params) ≤ length (now out) + 2 ⌝ }
+    requires { ⌜ EitherNumber inner ⌝ }
+    requires { ⌜ inner * (length (now params) - 2) + 4 ≤ length (now out) ⌝ }
     ensures result { λ _. ⌜ now (out .exit)
-        ≡ over (joinedPoints innerThrice (pieces (now (params .entry)) (now (ps .entry)) (now (ds .entry)))) (now (out .entry)) ⌝ }
+        ≡ over (joinedPoints inner (pieces (now (params .entry)) (now (ps .entry)) (now (ds .entry)))) (now (out .entry)) ⌝ }
 {
-    let count = 3 * params.len() - 2;
-    let mut j = 0;
-    while j < count {
-        out[j] = joined_point(params, ps, ds, j);
-        j += 1;
+    out[0] = ps[0];
+    let mut at = 1;
+    let mut i = 0;
+    while i + 1 < params.len() {
+        put_piece(params, ps, ds, i, out, at);
+        at += inner;
+        i += 1;
     }
 }

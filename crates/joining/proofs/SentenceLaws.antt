@@ -73,7 +73,7 @@ module _ (s : SplinePoints) where
     grid-same =
         let some = standing-of s standing .x-axis .rising .least in
         let on = points-on-grid s range in
-        ap₂ _&&_ (joined-on-grid (s .params) (s .xs) (s .dxs) (on .0) some) (joined-on-grid (s .params) (s .ys) (s .dys) (on .1) some)
+        ap₂ _&&_ (joined-on-grid innerThrice (s .params) (s .xs) (s .dxs) (on .0) some) (joined-on-grid innerThrice (s .params) (s .ys) (s .dys) (on .1) some)
 
     grid-fails : ((allPiecesOnGrid (piecesX s) && allPiecesOnGrid (piecesY s)) ≡ false) ↔ RangeWrong (joinedLists innerThrice s .xs) (joinedLists innerThrice s .ys)
     grid-fails =
@@ -82,11 +82,11 @@ module _ (s : SplinePoints) where
 
 pub join-answers : JoinAnswersFirst
 unfolding joinableThen
-join-answers s lent =
+join-answers inner s lent =
     answers-first _ _ refl
     (judged (spline-points-fail s) λ standing.
     judged (fails-iff (both-judged (range-judged (s .xs) (s .ys)) (range-judged (s .dxs) (s .dys)))) λ range.
     judged (fails-iff (both-judged (whole-judged (s .params) (s .xs) (s .dxs)) (whole-judged (s .params) (s .ys) (s .dys)))) λ whole.
     judged (grid-fails s standing range) λ grid.
-    judged (fails-iff (room-judged (joinedLists innerThrice s) lent)) λ room.
+    judged (fails-iff (room-judged (joinedLists inner s) lent)) λ room.
     accepts)

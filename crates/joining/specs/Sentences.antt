@@ -30,16 +30,17 @@ abbrev pub SplinePointsWrong : SplinePoints → Type 0
 SplinePointsWrong s =
     ((length (s .params) < splinePointsLeast) ⊎ (splinePointsMost < length (s .params))) ⊎ ListsUnequal s ⊎ ParametersWrong (s .params)
 
--- the rows in the order of joining: 7 for points and tangents, 11 and 18 for the joined points, 15 for the three lent lists
-abbrev pub joinRows : SplinePoints → Lists → List Row
-joinRows s lent =
+-- the rows in the order of joining: 7 for points and tangents, 11 and 18 for all four points of each piece, which are those of the curve with the meeting
+-- points, and 15 for the three lent lists against the result, in which an inner parameter stands `inner` times
+abbrev pub joinRows : ℕ → SplinePoints → Lists → List Row
+joinRows inner s lent =
     row 17 (SplinePointsWrong s)
     ∷ row 7 (RangeWrong (s .xs) (s .ys) ⊎ RangeWrong (s .dxs) (s .dys))
     ∷ row 11 (NotWhole (s .params) (s .dxs) ⊎ NotWhole (s .params) (s .dys))
     ∷ row 18 (RangeWrong (joinedLists innerThrice s .xs) (joinedLists innerThrice s .ys))
-    ∷ row 15 (RoomWrong (joinedLists innerThrice s) lent)
+    ∷ row 15 (RoomWrong (joinedLists inner s) lent)
     ∷ []
 
--- joining answers n exactly when row n applies and none before it does, and 0 exactly when none applies
+-- joining, with either number, answers n exactly when row n applies and none before it does, and 0 exactly when none applies
 abbrev pub JoinAnswersFirst : Type 0
-JoinAnswersFirst = (s : SplinePoints) (lent : Lists) → AnswersFirst (joinNumber innerThrice s lent) (joinRows s lent)
+JoinAnswersFirst = (inner : ℕ) (s : SplinePoints) (lent : Lists) → AnswersFirst (joinNumber inner s lent) (joinRows inner s lent)

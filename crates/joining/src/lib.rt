@@ -4,7 +4,7 @@ mod spline_points;
 ghost use mathlib.Core.Path.{_≡_};
 ghost use Rattle.refusal.specs.Numbers.{accepted};
 ghost use Rattle.curve.specs.Lists.{lists};
-ghost use Rattle.joined_curve.specs.Curve.{innerThrice};
+ghost use Rattle.joined_curve.specs.Curve.{innerTwice, innerThrice, EitherNumber};
 ghost use Rattle.joining.specs.SplinePoints.{splinePoints};
 ghost use Rattle.joining.specs.Answer.{joinableThen, JoinOutcome};
 
@@ -37,7 +37,76 @@ fn joinable_number(params: &[u16], xs: &[i32], ys: &[i32], dxs: &[i32], dys: &[i
     refusal::ACCEPTED
 }
 
-// The curve of degree 3 through the points, the points where pieces meet among its control points.
+// The curve of degree 3 in which each inner parameter stands `inner` times, or the number of refusal.
+fn join_with(
+    inner: usize,
+    params: &[u16],
+    xs: &[i32],
+    ys: &[i32],
+    dxs: &[i32],
+    dys: &[i32],
+    out_knots: &mut [u16],
+    out_xs: &mut [i32],
+    out_ys: &mut [i32],
+) -> JoinAnswer
+    requires { ⌜ EitherNumber inner ⌝ }
+    ensures answer { λ r. ⌜ JoinOutcome inner
+        (splinePoints (now (params .entry)) (now (xs .entry)) (now (ys .entry)) (now (dxs .entry)) (now (dys .entry)))
+        (lists (now («out_knots» .entry)) (now («out_xs» .entry)) (now («out_ys» .entry))) r
+        (lists (now («out_knots» .exit)) (now («out_xs» .exit)) (now («out_ys» .exit))) ⌝ }
+{
+    let number = joinable_number(params, xs, ys, dxs, dys);
+    if number != refusal::ACCEPTED {
+        return JoinAnswer::Refused(number);
+    }
+    // Four points for one piece and `inner` for each further one; and four knots more than points.
+    let points = inner * (params.len() - 2) + 4;
+    if !curve::room_for(
+        points + 4,
+        points,
+        points,
+        out_knots.len(),
+        out_xs.len(),
+        out_ys.len(),
+    ) {
+        return JoinAnswer::Refused(refusal::ROOM);
+    }
+    joined_curve::write_knots(params, inner, out_knots);
+    joined_curve::write_points(params, xs, dxs, inner, out_xs);
+    joined_curve::write_points(params, ys, dys, inner, out_ys);
+    JoinAnswer::Joined(points)
+}
+
+// The curve of degree 3 through the spline points, each inner parameter twice: the points where pieces meet drop out of its control points.
+pub fn join(
+    params: &[u16],
+    xs: &[i32],
+    ys: &[i32],
+    dxs: &[i32],
+    dys: &[i32],
+    out_knots: &mut [u16],
+    out_xs: &mut [i32],
+    out_ys: &mut [i32],
+) -> JoinAnswer
+    ensures answer { λ r. ⌜ JoinOutcome innerTwice
+        (splinePoints (now (params .entry)) (now (xs .entry)) (now (ys .entry)) (now (dxs .entry)) (now (dys .entry)))
+        (lists (now («out_knots» .entry)) (now («out_xs» .entry)) (now («out_ys» .entry))) r
+        (lists (now («out_knots» .exit)) (now («out_xs» .exit)) (now («out_ys» .exit))) ⌝ }
+{
+    join_with(
+        joined_curve::INNER_TWICE,
+        params,
+        xs,
+        ys,
+        dxs,
+        dys,
+        out_knots,
+        out_xs,
+        out_ys,
+    )
+}
+
+// The same curve with each inner parameter three times: the points where pieces meet are among its control points, as a path planner needs them.
 pub fn join_through_points(
     params: &[u16],
     xs: &[i32],
@@ -53,24 +122,15 @@ pub fn join_through_points(
         (lists (now («out_knots» .entry)) (now («out_xs» .entry)) (now («out_ys» .entry))) r
         (lists (now («out_knots» .exit)) (now («out_xs» .exit)) (now («out_ys» .exit))) ⌝ }
 {
-    let number = joinable_number(params, xs, ys, dxs, dys);
-    if number != refusal::ACCEPTED {
-        return JoinAnswer::Refused(number);
-    }
-    // Three points for each piece and the last end; and four knots more than points.
-    let points = 3 * params.len() - 2;
-    if !curve::room_for(
-        points + 4,
-        points,
-        points,
-        out_knots.len(),
-        out_xs.len(),
-        out_ys.len(),
-    ) {
-        return JoinAnswer::Refused(refusal::ROOM);
-    }
-    joined_curve::write_knots(params, out_knots);
-    joined_curve::write_points(params, xs, dxs, out_xs);
-    joined_curve::write_points(params, ys, dys, out_ys);
-    JoinAnswer::Joined(points)
+    join_with(
+        joined_curve::INNER_THRICE,
+        params,
+        xs,
+        ys,
+        dxs,
+        dys,
+        out_knots,
+        out_xs,
+        out_ys,
+    )
 }
