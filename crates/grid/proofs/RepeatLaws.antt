@@ -108,7 +108,7 @@ occurrences-within v (suc k) (t ∷ ts) h other =
     ]
 
 -- no v has another v k places after it: then at most k knots are v
-occurrences-most : (v k low : ℕ) (ts : List ℕ) → risesFrom low ts ≡ true
+pub occurrences-most : (v k low : ℕ) (ts : List ℕ) → risesFrom low ts ≡ true
     → ((j l : ℕ) → l ≡ j + k → l < length ts → getD ts j 0 ≡ v → getD ts l 0 ≡ v → ⊥) → occurrences v ts ≤ k
 unfolding occurrences
 occurrences-most v k low [] h other = zero-le

@@ -15,27 +15,31 @@ use Rattle.knots_exact.proofs.RemovalLaws.{remove-keeps-curve}
 use Rattle.knots_exact.proofs.SameLaws.{axis-trans}
 
 -- a curve that has points
-record Some (c : Lists) : Type 0 where
-  xs : 0 < length (c .xs)
-  ys : 0 < length (c .ys)
+pub record Some (c : Lists) : Type 0 where
+  pub xs : 0 < length (c .xs)
+  pub ys : 0 < length (c .ys)
 
-same-refl : (m : ℕ) (c : Lists) → SameCurve m c c
+pub same-refl : (m : ℕ) (c : Lists) → SameCurve m c c
 same-refl m c = record {
   x = record { start = refl; stop = refl; point = λ p q above inside. refl };
   y = record { start = refl; stop = refl; point = λ p q above inside. refl };
 }
 
-same-trans : (m : ℕ) (c d e : Lists) → Some c → Some d → SameCurve m c d → SameCurve m d e → SameCurve m c e
+pub same-trans : (m : ℕ) (c d e : Lists) → Some c → Some d → SameCurve m c d → SameCurve m d e → SameCurve m c e
 same-trans m c d e some many s t = record {
   x = axis-trans m (c .knots) (c .xs) (d .knots) (d .xs) (some .xs) (many .xs) (s .x) (e .knots) (e .xs) (t .x);
   y = axis-trans m (c .knots) (c .ys) (d .knots) (d .ys) (some .ys) (many .ys) (s .y) (e .knots) (e .ys) (t .y);
 }
 
--- what is left after a removal has points
-left-some : (m v : ℕ) (c d : Lists) → Removes m v c d → Some d
-left-some m v c d r =
-    let size = sizes-of-passes m (d .knots) (d .xs) (d .ys) (accepted-of-number m d v c (r .accepts) .passes) in
+-- a curve that passes the check has points
+pub passes-some : (m : ℕ) (c : Lists) → Passes m (c .knots) (c .xs) (c .ys) → Some c
+passes-some m c passes =
+    let size = sizes-of-passes m (c .knots) (c .xs) (c .ys) passes in
     record { xs = omega (arith, size .enough); ys = omega (arith, size .enough, size .as-many) }
+
+-- and so has what is left after a removal
+left-some : (m v : ℕ) (c d : Lists) → Removes m v c d → Some d
+left-some m v c d r = passes-some m d (accepted-of-number m d v c (r .accepts) .passes)
 
 while-some : {m v : ℕ} {c d : Lists} → RemovesWhile m v c d → Some c → Some d
 while-some (stays h) s = s
@@ -52,9 +56,7 @@ pass-same {m} {low} (next {c = c} {d = d} {e = e} n w p) s =
     same-trans m c d e s (while-some w s) (while-same w s) (pass-same p (while-some w s))
 
 pub compact-keeps-curve : CompactKeepsCurve
-compact-keeps-curve m c d passes pass =
-    let size = sizes-of-passes m (c .knots) (c .xs) (c .ys) passes in
-    pass-same pass (record { xs = omega (arith, size .enough); ys = omega (arith, size .enough, size .as-many) })
+compact-keeps-curve m c d passes pass = pass-same pass (passes-some m c passes)
 
 -- what is left after a removal passes the check
 left-passes : (m v : ℕ) (c d : Lists) → Removes m v c d → Passes m (d .knots) (d .xs) (d .ys)

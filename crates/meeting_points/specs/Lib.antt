@@ -1,0 +1,2 @@
+-- Inserting values one after the other.
+pub mod Inserting
