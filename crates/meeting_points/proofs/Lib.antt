@@ -3,3 +3,4 @@ pub mod InsertingLaws
 mod ListLaws
 mod QuotientLaws
 mod StepLaws
+pub mod MeetingLaws

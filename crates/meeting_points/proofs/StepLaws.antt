@@ -149,7 +149,7 @@ module _ (c : Lists) (v n : ℕ) (x y : ℤ) (passes : Passes 3 (c .knots) (c .x
   on-y : Insertable 3 (c .knots) (c .ys) v
   on-y = insertable-ys 3 (c .knots) (c .xs) (c .ys) v passes (omega (arith, low-end)) high-end
 
-  pub twice-accepted : insertionNumber 3 c v (inserted 3 c v) ≡ 0
+  twice-accepted : insertionNumber 3 c v (inserted 3 c v) ≡ 0
   unfolding valueOk placeOk wholeOk
   twice-accepted =
       let seldom = twice-seldom (c .knots) v n (passes-tests 3 (c .knots) (c .xs) (c .ys) passes .order) t inside in
@@ -162,13 +162,16 @@ module _ (c : Lists) (v n : ℕ) (x y : ℤ) (passes : Passes 3 (c .knots) (c .x
         room = room-enough (inserted 3 c v);
       })
 
-  -- the new curve, where the old lists are parted before the new entries
-  pub twice-inserted : (ks ls : List ℕ) (fx bx fy by : List ℤ) → c .knots ≡ ks ++ ls → c .xs ≡ fx ++ bx → c .ys ≡ fy ++ by
-      → length ks ≡ n + 3 → length fx ≡ n → length fy ≡ n → inserted 3 c v ≡ lists (ks ++ (v ∷ ls)) (fx ++ (x ∷ bx)) (fy ++ (y ∷ by))
-  twice-inserted ks ls fx bx fy by split-knots split-x split-y many many-x many-y =
-      let (knots, xs, ys) = inserted-by-index 3 c v (inserted 3 c v) (n + 2) twice-accepted (twice-between (c .knots) v n t inside) in
-      rw (
-        knots-put-in (c .knots) v n ks ls (insertedKnots (c .knots) v) split-knots many knots,
-        axis-points (c .knots) (c .xs) v n x t on-x inside mean-x fx bx (insertedPoints 3 (c .knots) (c .xs) v) split-x many-x xs,
-        axis-points (c .knots) (c .ys) v n y t on-y inside mean-y fy by (insertedPoints 3 (c .knots) (c .ys) v) split-y many-y ys,
+  -- so v is inserted: where the old lists are parted before the new entries, these stand between the parts
+  pub twice-inserts : (ks ls : List ℕ) (fx bx fy by : List ℤ) → c .knots ≡ ks ++ ls → c .xs ≡ fx ++ bx → c .ys ≡ fy ++ by
+      → length ks ≡ n + 3 → length fx ≡ n → length fy ≡ n
+      → (insertionNumber 3 c v (inserted 3 c v) ≡ 0) × (inserted 3 c v ≡ lists (ks ++ (v ∷ ls)) (fx ++ (x ∷ bx)) (fy ++ (y ∷ by)))
+  twice-inserts ks ls fx bx fy by split-knots split-x split-y many many-x many-y =
+      let (knots, xs, ys) = inserted-by-index 3 c v (inserted 3 c v) (n + 2) twice-accepted (twice-between (c .knots) v n t inside) in (
+        twice-accepted,
+        rw (
+          knots-put-in (c .knots) v n ks ls (insertedKnots (c .knots) v) split-knots many knots,
+          axis-points (c .knots) (c .xs) v n x t on-x inside mean-x fx bx (insertedPoints 3 (c .knots) (c .xs) v) split-x many-x xs,
+          axis-points (c .knots) (c .ys) v n y t on-y inside mean-y fy by (insertedPoints 3 (c .knots) (c .ys) v) split-y many-y ys,
+        ),
       )
