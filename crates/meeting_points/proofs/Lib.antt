@@ -4,3 +4,4 @@ mod ListLaws
 mod QuotientLaws
 mod StepLaws
 pub mod MeetingLaws
+mod Controls
