@@ -26,27 +26,27 @@ abbrev onY : List Piece
 onY = pieces params (pos 4 ∷ negsuc 1 ∷ pos 7 ∷ []) (pos 0 ∷ pos 1 ∷ negsuc 0 ∷ [])
 
 -- the curve without the meeting point (-6, -2), and the curve with it
-without : Lists
-without = lists (0 ∷ 0 ∷ 0 ∷ 0 ∷ 3 ∷ 3 ∷ 9 ∷ 9 ∷ 9 ∷ 9 ∷ [])
+withoutMeeting : Lists
+withoutMeeting = lists (0 ∷ 0 ∷ 0 ∷ 0 ∷ 3 ∷ 3 ∷ 9 ∷ 9 ∷ 9 ∷ 9 ∷ [])
     (pos 0 ∷ pos 1 ∷ negsuc 3 ∷ negsuc 9 ∷ pos 6 ∷ pos 12 ∷ [])
     (pos 4 ∷ pos 4 ∷ negsuc 2 ∷ pos 0 ∷ pos 9 ∷ pos 7 ∷ [])
 
-with-it : Lists
-with-it = lists (0 ∷ 0 ∷ 0 ∷ 0 ∷ 3 ∷ 3 ∷ 3 ∷ 9 ∷ 9 ∷ 9 ∷ 9 ∷ [])
+withMeeting : Lists
+withMeeting = lists (0 ∷ 0 ∷ 0 ∷ 0 ∷ 3 ∷ 3 ∷ 3 ∷ 9 ∷ 9 ∷ 9 ∷ 9 ∷ [])
     (pos 0 ∷ pos 1 ∷ negsuc 3 ∷ negsuc 5 ∷ negsuc 9 ∷ pos 6 ∷ pos 12 ∷ [])
     (pos 4 ∷ pos 4 ∷ negsuc 2 ∷ negsuc 1 ∷ pos 0 ∷ pos 9 ∷ pos 7 ∷ [])
 
-joined-twice : lists (joinedKnots innerTwice onX) (joinedPoints innerTwice onX) (joinedPoints innerTwice onY) ≡ without
-unfolding without knotsAfter joinedKnots pointsAfter joinedPoints third pieceOf pieceAt piecesFrom pieces
+joined-twice : lists (joinedKnots innerTwice onX) (joinedPoints innerTwice onX) (joinedPoints innerTwice onY) ≡ withoutMeeting
+unfolding withoutMeeting knotsAfter joinedKnots pointsAfter joinedPoints third pieceOf pieceAt piecesFrom pieces
 joined-twice = refl
 
-joined-thrice : lists (joinedKnots innerThrice onX) (joinedPoints innerThrice onX) (joinedPoints innerThrice onY) ≡ with-it
-unfolding with-it knotsAfter joinedKnots pointsAfter joinedPoints third pieceOf pieceAt piecesFrom pieces
+joined-thrice : lists (joinedKnots innerThrice onX) (joinedPoints innerThrice onX) (joinedPoints innerThrice onY) ≡ withMeeting
+unfolding withMeeting knotsAfter joinedKnots pointsAfter joinedPoints third pieceOf pieceAt piecesFrom pieces
 joined-thrice = refl
 
 -- inserting 3 is accepted and gives the meeting point back: -6 = (3·(-10) + 6·(-4)) / 9, and -2 = (3·0 + 6·(-3)) / 9
-meeting-inserted : InsertsEach 3 (innerParameters params) without with-it
-unfolding without with-it innerParameters enough strictlyInside divides degreeOk pointCountOk knotCountOk risesFrom knotOrderOk allAre endsOk occurrences repeatsMost repeatsWithin repeatsOk onGrid allOnGrid rangeOk checkedThen knotsUpTo insertionSpan insertedKnots weightedSum weight insertedPoint entries insertedPoints wholeFrom wholePoints valueOk placeOk wholeOk insertableThen insertionNumber
+meeting-inserted : InsertsEach 3 (innerParameters params) withoutMeeting withMeeting
+unfolding withoutMeeting withMeeting innerParameters enough strictlyInside divides degreeOk pointCountOk knotCountOk risesFrom knotOrderOk allAre endsOk occurrences repeatsMost repeatsWithin repeatsOk onGrid allOnGrid rangeOk checkedThen knotsUpTo insertionSpan insertedKnots weightedSum weight insertedPoint entries insertedPoints wholeFrom wholePoints valueOk placeOk wholeOk insertableThen insertionNumber
 meeting-inserted = (refl, refl)
 
 -- of four parameters two are inner; of two none is

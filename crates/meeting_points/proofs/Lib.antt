@@ -2,6 +2,8 @@
 pub mod InsertingLaws
 mod ListLaws
 mod QuotientLaws
+mod AxisLaws
 mod StepLaws
+mod MeanLaws
 pub mod MeetingLaws
 mod Controls

@@ -27,15 +27,15 @@ module _ (m : ℕ) (ts : List ℕ) (ps : List ℤ) (v j : ℕ) (low : getD ts j 
   abbrev below : ℕ
   below = getD ts (j + m) 0 - getD ts j 0
 
-  of-quotient : (q : ℤ) → Quotient m ts ps v j q → q *ℤ pos below ≡ weightedSum m ts ps v j
+  quotient-product : (q : ℤ) → Quotient m ts ps v j q → q *ℤ pos below ≡ weightedSum m ts ps v j
   unfolding weightedSum
-  of-quotient q e = ap (λ z. q *ℤ z) (sym (pos-sub (getD ts (j + m) 0) (getD ts j 0) (omega arith))) ∙ e
+  quotient-product q e = ap (λ z. q *ℤ z) (sym (pos-sub (getD ts (j + m) 0) (getD ts j 0) (omega arith))) ∙ e
 
   pub quotient-whole : (q : ℤ) → Quotient m ts ps v j q → divides (weight m ts j) (weightedSum m ts ps v j) ≡ true
-  quotient-whole q e = rw (weight-natural m ts ps v j low high, ← (of-quotient q e)) (product-divides q below)
+  quotient-whole q e = rw (weight-natural m ts ps v j low high, ← (quotient-product q e)) (product-divides q below)
 
-  pub quotient-one : (p q : ℤ) → Quotient m ts ps v j p → Quotient m ts ps v j q → p ≡ q
-  quotient-one p q e f = factor-out below p q (omega arith) (of-quotient p e ∙ sym (of-quotient q f))
+  pub quotient-unique : (p q : ℤ) → Quotient m ts ps v j p → Quotient m ts ps v j q → p ≡ q
+  quotient-unique p q e f = factor-out below p q (omega arith) (quotient-product p e ∙ sym (quotient-product q f))
 
 -- where t_j is v, nothing of P_j is taken
 pub quotient-old : (m : ℕ) (ts : List ℕ) (ps : List ℤ) (v j : ℕ) → getD ts j 0 ≡ v → Quotient m ts ps v j (getD ps (j - 1) (pos 0))
