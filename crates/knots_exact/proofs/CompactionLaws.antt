@@ -16,8 +16,8 @@ use Rattle.knots_exact.proofs.SameLaws.{axis-trans}
 
 -- a curve that has points
 pub record Some (c : Lists) : Type 0 where
-  pub xs : 0 < length (c .xs)
-  pub ys : 0 < length (c .ys)
+  xs : 0 < length (c .xs)
+  ys : 0 < length (c .ys)
 
 pub same-refl : (m : ℕ) (c : Lists) → SameCurve m c c
 same-refl m c = record {

@@ -3,7 +3,7 @@
 use mathlib.Core.List.{List, [], _∷_}
 use mathlib.Core.Path.{_≡_, refl}
 use Prim.Native.Nat.{ℕ}
-use lib.IntN.{ℤ, pos, negsuc}
+use lib.IntN.{pos, negsuc}
 use Rattle.signed.specs.Division.{divides}
 use Rattle.curve.specs.Lists.{Lists, lists}
 use Rattle.curve.specs.HandingOver.{enough}
@@ -12,7 +12,7 @@ use Rattle.grid.specs.Check.{checkedThen}
 use Rattle.span.specs.Span.{strictlyInside}
 use Rattle.insertion.specs.Insertion.{knotsUpTo, insertionSpan, insertedKnots, weightedSum, weight, insertedPoint, entries, insertedPoints, wholeFrom, wholePoints}
 use Rattle.insertion.specs.Judged.{valueOk, placeOk, wholeOk, insertableThen, insertionNumber}
-use Rattle.spline_pieces.specs.Pieces.{Piece, third, thirdWhole, pieceOf, pieceAt, piecesFrom, pieces}
+use Rattle.spline_pieces.specs.Pieces.{Piece, third, pieceOf, pieceAt, piecesFrom, pieces}
 use Rattle.joined_curve.specs.Curve.{innerTwice, innerThrice, knotsAfter, joinedKnots, pointsAfter, joinedPoints}
 use Rattle.meeting_points.specs.Inserting.{innerParameters, InsertsEach}
 

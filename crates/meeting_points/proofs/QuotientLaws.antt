@@ -11,7 +11,7 @@ use lib.Signed.{quotZ}
 use Rattle.signed.specs.Division.{divides}
 use Rattle.signed.proofs.DivisionLaws.{quot-of-product, product-divides}
 use Rattle.signed.proofs.DifferenceLaws.{pos-sub}
-use Rattle.algebra.proofs.Expressions.{var, lit, _⊕_, _⊗_, _⊖_, minus}
+use Rattle.algebra.proofs.Expressions.{var, lit, _⊕_, _⊗_, _⊖_}
 use Rattle.algebra.proofs.Solver.{ring, linear-combination, fact}
 use Rattle.algebra.proofs.IntegerRing.{integerRing}
 use Rattle.insertion.specs.Insertion.{weightedSum, weight}
