@@ -21,8 +21,9 @@ use Rattle.meeting_points.specs.Inserting.{innerParameters, InsertsEach}
 use Rattle.meeting_points.proofs.StepLaws.{twice-inserts}
 use Rattle.meeting_points.proofs.MeanLaws.{knotsBehind, pointsBehind, knotsBehind-first, pointsBehind-length, end-twice, end-mean}
 
-abbrev PassesAll : Lists → Type 0
-PassesAll c = Passes 3 (c .knots) (c .xs) (c .ys)
+-- a cubic that passes the check
+abbrev CubicPasses : Lists → Type 0
+CubicPasses c = Passes 3 (c .knots) (c .xs) (c .ys)
 
 -- a front with the three knots, or the three points, by which piece i makes it longer
 abbrev longerKnots : List ℕ → ℕ → List ℕ → List ℕ
@@ -45,7 +46,7 @@ module _ (ss : List ℕ) (xs dxs ys dys : List ℤ) where
     many : length ks ≡ 3 * i + 3
     many-x : length fx ≡ 3 * i
     many-y : length fy ≡ 3 * i
-    passes : PassesAll (curveOn innerTwice i count ks fx fy)
+    passes : CubicPasses (curveOn innerTwice i count ks fx fy)
 
   module _ (rising : Rising ss) (whole-x : allWhole (pieces ss xs dxs) ≡ true) (whole-y : allWhole (pieces ss ys dys) ≡ true) where
     module _ (i count : ℕ) (ks : List ℕ) (fx fy : List ℤ) (b : Begun i (suc count) ks fx fy) where
@@ -90,7 +91,7 @@ module _ (ss : List ℕ) (xs dxs ys dys : List ℤ) where
             many = length-append ks _ ∙ omega (arith, b .many);
             many-x = length-append fx _ ∙ omega (arith, b .many-x);
             many-y = length-append fy _ ∙ omega (arith, b .many-y);
-            passes = subst PassesAll gives (inserted-passes 3 (before .knots) (before .xs) (before .ys) (getD ss (suc i) 0) (inserted 3 before (getD ss (suc i) 0)) accepts);
+            passes = subst CubicPasses gives (inserted-passes 3 (before .knots) (before .xs) (before .ys) (getD ss (suc i) 0) (inserted 3 before (getD ss (suc i) 0)) accepts);
           }
 
     inserts-on : (count i : ℕ) (ks : List ℕ) (fx fy : List ℤ) → Begun i count ks fx fy
