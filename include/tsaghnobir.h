@@ -68,15 +68,20 @@
  * treats all four as it treated 16; which bytes are read, and what is read from them, has not changed.
  * Version 3: tsb_feed and tsb_feed_end, for a job that comes in bursts. Nothing else changed: a caller of version 2
  * has nothing to do.
+ * Version 4: tsb_join leaves out the spline points where pieces meet. With k + 1 spline points it gives 2k + 2 points and
+ * 2k + 6 knots, where it gave 3k + 1 and 3k + 5. The exact curve is the same, and so are the refusals, but that 15 asks for
+ * fewer places: lists that were long enough still are. tsb_spans may list more spans of the shorter result, where the box
+ * of a span reaches to points of its neighbours. A caller of version 3 who needs the meeting points among the control
+ * points calls tsb_join_through_points, which is the old tsb_join under its new name; any other goes by *points, as before.
  */
-#define TSB_API_VERSION 3
+#define TSB_API_VERSION 4
 
 /* The limits, and places that are always enough for a result. */
 #define TSB_POINTS_MOST 1024       /* points of a curve */
 #define TSB_KNOTS_MOST 1028        /* knots of a curve */
 #define TSB_KNOT_MOST 16383        /* value of a knot */
 #define TSB_COORDINATE_MOST 262144 /* size of a coordinate, a tangent or a rectangle's side */
-#define TSB_SPLINE_POINTS_MOST 342 /* spline points to join */
+#define TSB_SPLINE_POINTS_MOST 342 /* spline points to join: to 684 points by tsb_join, 1024 by tsb_join_through_points */
 #define TSB_RECORD_MOST 10261      /* bytes of a record */
 #define TSB_JOB_MOST 11477         /* bytes of a job */
 #define TSB_CLAMPS_MOST 64         /* clamps of a job */
@@ -200,11 +205,30 @@ uint32_t tsb_compact(
 /*
  * A curve of degree 3 through spline points: at the parameter params[i] it passes through (px[i], py[i])
  * with the tangent (tx[i], ty[i]), in grid steps per unit of the parameter. With k + 1 spline points the
- * result has 3k + 1 points, whose number goes to *points, and 3k + 5 knots: each end value four times, each
- * parameter between three times.
- * Refused by 17, then 7, 11, 18, 15: in this order, each judged over all pieces and both axes.
+ * result has 2k + 2 points, whose number goes to *points, and 2k + 6 knots: each end value four times, each
+ * parameter between twice. The points are the first spline point, two inner points of each piece, and the last
+ * spline point; those where pieces meet are left out, though the curve passes through them. Take this call, unless
+ * the meeting points are needed among the control points, as by a path planner: for that there is the next one.
+ * Refused by 17, then 7, 11, 18, 15: in this order, each judged over all four points of every piece and both axes, so
+ * also over those that are left out; 15 by the places that this result needs.
  */
 uint32_t tsb_join(
+    const uint16_t *params, size_t params_len,
+    const int32_t *px, size_t px_len, const int32_t *py, size_t py_len,
+    const int32_t *tx, size_t tx_len, const int32_t *ty, size_t ty_len,
+    uint16_t *TSB_RESTRICT out_knots, size_t out_knots_len,
+    int32_t *TSB_RESTRICT out_xs, size_t out_xs_len,
+    int32_t *TSB_RESTRICT out_ys, size_t out_ys_len,
+    size_t *TSB_RESTRICT points);
+
+/*
+ * The same exact curve with the meeting points among its control points, for a path planner: the entry 3i of out_xs and
+ * out_ys is the spline point i. With k + 1 spline points the result has 3k + 1 points, whose number goes to *points, and
+ * 3k + 5 knots: each end value four times, each parameter between three times. tsb_insert makes it from the result of
+ * tsb_join, called once for each parameter between.
+ * Refused by 17, then 7, 11, 18, 15: as by tsb_join, but for 15, which goes by the places that this result needs.
+ */
+uint32_t tsb_join_through_points(
     const uint16_t *params, size_t params_len,
     const int32_t *px, size_t px_len, const int32_t *py, size_t py_len,
     const int32_t *tx, size_t tx_len, const int32_t *ty, size_t ty_len,
