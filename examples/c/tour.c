@@ -1,7 +1,7 @@
 /*
  * A tour of the library from C: the point on a curve, a knot inserted and removed, all knots removed that can go,
- * spline points joined, the spans that a clamp asks for, a record written and read back, records and jobs that are
- * broken, with the place where they break, jobs that come in bursts, and some refusals.
+ * spline points joined by both calls, the spans that a clamp asks for, a record written and read back, records and jobs
+ * that are broken, with the place where they break, jobs that come in bursts, and some refusals.
  * Build and run: examples/c/build.sh run
  */
 #include <stddef.h>
@@ -24,8 +24,20 @@ struct curve {
     (c).degree, (c).knots, (c).points + (c).degree + 1, (c).xs, (c).points, (c).ys, (c).points
 #define PLACES(c) (c).knots, TSB_KNOTS_MOST, (c).xs, TSB_POINTS_MOST, (c).ys, TSB_POINTS_MOST
 
+/* Spline points, and the parameters that both joining calls begin with. */
+struct spline {
+    size_t count;
+    uint16_t params[3];
+    int32_t px[3], py[3], tx[3], ty[3];
+};
+
+#define SPLINE(s) \
+    (s).params, (s).count, (s).px, (s).count, (s).py, (s).count, (s).tx, (s).count, (s).ty, (s).count
+
 static struct curve a = {3, 4, {0, 0, 0, 0, 4, 4, 4, 4}, {0, 0, 8, 8}, {0, 8, 8, 0}};
 static struct curve b = {2, 4, {0, 0, 0, 2, 4, 4, 4}, {0, 4, 8, 12}, {0, 8, 8, 0}};
+static struct spline two = {2, {0, 12}, {0, 12}, {0, 0}, {1, 1}, {1, -1}};
+static struct spline three = {3, {0, 3, 9}, {0, 6, 12}, {0, -6, 0}, {1, 1, 1}, {-2, 0, 5}};
 static struct curve result, kept;
 static uint8_t bytes[TSB_JOB_MOST];
 
@@ -81,16 +93,26 @@ static void print_compacted(const struct curve *c)
         printf(" refused %u\n", (unsigned)refusal);
 }
 
-static void print_joined(uint16_t until)
+static void print_joined(const char *name, uint32_t refusal)
 {
-    uint16_t params[] = {0, until};
-    int32_t px[] = {0, 12}, py[] = {0, 0}, tx[] = {1, 1}, ty[] = {1, -1};
-    uint32_t refusal = tsb_join(params, 2, px, 2, py, 2, tx, 2, ty, 2, PLACES(result), &result.points);
-    printf("joined from 0 to %u:", (unsigned)until);
-    if (refusal == TSB_OK)
+    result.degree = 3;
+    printf("joined %s:", name);
+    if (refusal == TSB_OK) {
+        printf(" %u points,", (unsigned)result.points);
         print_points(&result);
-    else
+    } else
         printf(" refused %u\n", (unsigned)refusal);
+}
+
+/* One curve without its meeting point among the control points, and with it: a knot inserted there brings it back. */
+static void print_joined_by_both(const struct spline *s)
+{
+    print_joined("by default", tsb_join(SPLINE(*s), PLACES(result), &result.points));
+    kept = result;
+    print_point_at(&kept, s->params[1]);
+    print_inserted(&kept, s->params[1]);
+    print_joined("through points", tsb_join_through_points(SPLINE(*s), PLACES(result), &result.points));
+    print_point_at(&result, s->params[1]);
 }
 
 static void print_spans(const struct curve *c, int32_t low_x, int32_t high_x, int32_t low_y, int32_t high_y)
@@ -267,7 +289,9 @@ int main(void)
     b.xs[2] = 10;
     print_removed(&b, 2);
 
-    print_joined(12);
-    print_joined(4);
+    print_joined("from 0 to 12", tsb_join(SPLINE(two), PLACES(result), &result.points));
+    two.params[1] = 4;
+    print_joined("from 0 to 4", tsb_join(SPLINE(two), PLACES(result), &result.points));
+    print_joined_by_both(&three);
     return 0;
 }
