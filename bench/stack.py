@@ -171,7 +171,7 @@ def main(objdump, *words):
     turns = {name: int(most) for name, most in turns.items()}
     for path in (word for word in words if "=" not in word and word != "all"):
         for name, size, way in figures(objdump, path, turns, every):
-            print(("%-17s %6d   %s" % (name, size, " > ".join(way[1:]))).rstrip())
+            print(("%-24s%6d   %s" % (name, size, " > ".join(way[1:]))).rstrip())
 
 
 if __name__ == "__main__":

@@ -34,6 +34,7 @@ SEEN(tsb_insert)
 SEEN(tsb_remove)
 SEEN(tsb_compact)
 SEEN(tsb_join)
+SEEN(tsb_join_through_points)
 SEEN(tsb_spans)
 SEEN(tsb_write_record)
 SEEN(tsb_read_record)
@@ -52,6 +53,7 @@ static size_t number_of_points;
 
 #define CURVE 3, knots, number_of_points + 4, xs, number_of_points, ys, number_of_points
 #define OUT out_knots, KNOTS, out_xs, POINTS, out_ys, POINTS
+#define SPLINE knots + 3, JOINED, xs, JOINED, ys, JOINED, tangents, JOINED, tangents, JOINED
 
 static uint32_t check(void) { return seen_tsb_check(CURVE); }
 static uint32_t point(void) { return seen_tsb_point(CURVE, 1, &x, &y); }
@@ -68,7 +70,8 @@ static uint32_t feed_end(void)
 {
     return seen_tsb_feed_end(work, sizeof work, OUT, clamps, TSB_CLAMPS_MOST * 4, &degree, &points, &clamp_count, &place, &received);
 }
-static uint32_t join(void) { return seen_tsb_join(knots + 3, JOINED, xs, JOINED, ys, JOINED, tangents, JOINED, tangents, JOINED, OUT, &points); }
+static uint32_t join(void) { return seen_tsb_join(SPLINE, OUT, &points); }
+static uint32_t join_through_points(void) { return seen_tsb_join_through_points(SPLINE, OUT, &points); }
 
 /* Paints what lies below us, but for what this function itself may use. */
 static __attribute__((noinline)) void paint(void)
@@ -130,5 +133,6 @@ int main(void)
         seen("tsb_feed_end", feed_end);
     }
     seen("tsb_join", join);
+    seen("tsb_join_through_points", join_through_points);
     return 0;
 }
