@@ -16,9 +16,9 @@
 
 enum { ROUNDS = 2000, DEGREE = 3, STEP = 6, PARAMETERS = 16, SIZES = 4, CLAMPS = 8, SPLITS = 7 };
 
-enum call { CHECK, POINT, CARRYING, SPANS, INSERT, JOIN, WRITE, READ, COMPACT, FEED, CALLS, BURSTS };
+enum call { CHECK, POINT, CARRYING, SPANS, INSERT, JOIN, THROUGH, WRITE, READ, COMPACT, FEED, CALLS, BURSTS };
 
-static const char *const names[CALLS] = {"check", "point", "carrying", "spans", "insert", "join", "write", "read", "compact", "feed"};
+static const char *const names[CALLS] = {"check", "point", "carrying", "spans", "insert", "join", "through", "write", "read", "compact", "feed"};
 static const size_t sizes[SIZES] = {4, 64, 256, 1024};
 
 /* How many bursts, and of how many bytes; the last may be shorter. Each comes behind the ones before it, or each to the front of the list. */
@@ -120,6 +120,7 @@ FEEDING(plain)
             case SPANS: refusal |= side##_spans(GIVEN, CLAMP, out->lows, TSB_POINTS_MOST, out->highs, TSB_POINTS_MOST, &out->count); break; \
             case INSERT: refusal |= side##_insert(FOR_INSERTION, in.v, PLACES, &out->count); break;                         \
             case JOIN: refusal |= side##_join(SPLINE, PLACES, &out->count); break;                                          \
+            case THROUGH: refusal |= side##_join_through_points(SPLINE, PLACES, &out->count); break;                        \
             case WRITE: refusal |= side##_write_record(GIVEN, out->bytes, TSB_RECORD_MOST, &out->count); break;             \
             case READ: refusal |= side##_read_record(in.bytes, in.length, PLACES, &out->degree, &out->count, &out->place); break; \
             case COMPACT: refusal |= side##_compact(SLACK, PLACES, &out->count, &out->place); break;                        \
@@ -174,7 +175,7 @@ static void fill_input(size_t points)
 {
     in.points = points;
     in.inserted_points = points < TSB_POINTS_MOST ? points : TSB_POINTS_MOST - 1;
-    in.spline_points = (points - 1) / 3 + 1;
+    in.spline_points = (points - 1) / 3 + 1; /* for both joinings; joining through points gives as many points */
     fill_knots(in.knots, points);
     fill_knots(in.inserted_knots, in.inserted_points);
     for (size_t i = 0; i < points; i++) {

@@ -7,6 +7,9 @@
 
 #define CURVE \
     uint32_t degree, const uint16_t *knots, size_t knots_len, const int32_t *xs, size_t xs_len, const int32_t *ys, size_t ys_len
+#define SPLINE_POINTS                                                                                              \
+    const uint16_t *params, size_t params_len, const int32_t *px, size_t px_len, const int32_t *py, size_t py_len, \
+        const int32_t *tx, size_t tx_len, const int32_t *ty, size_t ty_len
 #define LISTS \
     uint16_t *restrict out_knots, size_t out_knots_len, int32_t *restrict out_xs, size_t out_xs_len, int32_t *restrict out_ys, size_t out_ys_len
 #define JOB                                                                                                  \
@@ -18,9 +21,8 @@ uint32_t plain_point(CURVE, uint32_t t, double *restrict x, double *restrict y);
 uint32_t plain_carrying(CURVE, uint32_t t, size_t *restrict first);
 uint32_t plain_insert(CURVE, uint32_t v, LISTS, size_t *restrict points);
 uint32_t plain_compact(CURVE, LISTS, size_t *restrict points, size_t *restrict removed);
-uint32_t plain_join(
-    const uint16_t *params, size_t params_len, const int32_t *px, size_t px_len, const int32_t *py, size_t py_len,
-    const int32_t *tx, size_t tx_len, const int32_t *ty, size_t ty_len, LISTS, size_t *restrict points);
+uint32_t plain_join(SPLINE_POINTS, LISTS, size_t *restrict points);
+uint32_t plain_join_through_points(SPLINE_POINTS, LISTS, size_t *restrict points);
 uint32_t plain_spans(
     CURVE, int32_t low_x, int32_t high_x, int32_t low_y, int32_t high_y,
     uint16_t *restrict lows, size_t lows_len, uint16_t *restrict highs, size_t highs_len, size_t *restrict count);

@@ -1,4 +1,7 @@
-/* Joining spline points, written plainly. */
+/*
+ * Joining spline points, written plainly: one body for both calls, which is told how many times an inner parameter stands, two or three. Knots and points
+ * are written by threes in either case, without asking; where it is two, what follows is written over the third.
+ */
 #include "plain.h"
 #include "tsaghnobir.h"
 
@@ -35,20 +38,36 @@ static int pieces_on_grid(const uint16_t *params, const int32_t *ps, const int32
     return 1;
 }
 
-static void join_axis(const uint16_t *params, const int32_t *ps, const int32_t *ds, size_t count, int32_t *restrict out)
+static uint16_t *put_end(uint16_t *out, uint16_t knot)
 {
-    out[0] = ps[0];
+    out[0] = out[1] = out[2] = out[3] = knot;
+    return out + 4;
+}
+
+static void join_knots(const uint16_t *params, size_t count, size_t times, uint16_t *restrict out)
+{
+    out = put_end(out, params[0]);
+    for (size_t i = 1; i + 1 < count; i++) {
+        out[0] = out[1] = out[2] = params[i];
+        out += times;
+    }
+    put_end(out, params[count - 1]);
+}
+
+/* The third point of a piece is its end: the meeting point, or the curve's last. */
+static void join_axis(const uint16_t *params, const int32_t *ps, const int32_t *ds, size_t count, size_t times, int32_t *restrict out)
+{
+    *out = ps[0];
     for (size_t i = 0; i + 1 < count; i++) {
         int64_t h = params[i + 1] - params[i];
-        out[3 * i + 1] = (int32_t)(ps[i] + h * ds[i] / 3);
-        out[3 * i + 2] = (int32_t)(ps[i + 1] - h * ds[i + 1] / 3);
-        out[3 * i + 3] = ps[i + 1];
+        out[1] = (int32_t)(ps[i] + h * ds[i] / 3);
+        out[2] = (int32_t)(ps[i + 1] - h * ds[i + 1] / 3);
+        out[3] = ps[i + 1];
+        out += times;
     }
 }
 
-uint32_t plain_join(
-    const uint16_t *params, size_t params_len, const int32_t *px, size_t px_len, const int32_t *py, size_t py_len,
-    const int32_t *tx, size_t tx_len, const int32_t *ty, size_t ty_len, LISTS, size_t *restrict points)
+static uint32_t join(size_t times, SPLINE_POINTS, LISTS, size_t *restrict points)
 {
     size_t count = params_len;
     if (count < 2 || count > TSB_SPLINE_POINTS_MOST || px_len != count || py_len != count || tx_len != count || ty_len != count)
@@ -62,14 +81,25 @@ uint32_t plain_join(
         return TSB_NOT_WHOLE;
     if (!pieces_on_grid(params, px, tx, count) || !pieces_on_grid(params, py, ty, count))
         return TSB_JOINED_RANGE;
-    if (out_knots_len < 3 * count + 2 || out_xs_len < 3 * count - 2 || out_ys_len < 3 * count - 2)
+    size_t joined = times * (count - 2) + 4;
+    if (out_knots_len < joined + 4 || out_xs_len < joined || out_ys_len < joined)
         return TSB_ROOM;
-    size_t at = 0;
-    for (size_t i = 0; i < count; i++)
-        for (size_t times = i == 0 || i == count - 1 ? 4 : 3; times > 0; times--)
-            out_knots[at++] = params[i];
-    join_axis(params, px, tx, count, out_xs);
-    join_axis(params, py, ty, count, out_ys);
-    *points = 3 * count - 2;
+    join_knots(params, count, times, out_knots);
+    join_axis(params, px, tx, count, times, out_xs);
+    join_axis(params, py, ty, count, times, out_ys);
+    *points = joined;
     return TSB_OK;
+}
+
+#define GIVEN params, params_len, px, px_len, py, py_len, tx, tx_len, ty, ty_len
+#define PLACES out_knots, out_knots_len, out_xs, out_xs_len, out_ys, out_ys_len
+
+uint32_t plain_join(SPLINE_POINTS, LISTS, size_t *restrict points)
+{
+    return join(2, GIVEN, PLACES, points);
+}
+
+uint32_t plain_join_through_points(SPLINE_POINTS, LISTS, size_t *restrict points)
+{
+    return join(3, GIVEN, PLACES, points);
 }
