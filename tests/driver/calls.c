@@ -149,7 +149,13 @@ static uint32_t compact(void)
     return refusal;
 }
 
-static uint32_t join(void)
+/* Both ways to join: they differ in what they give, not in what they are asked. */
+typedef uint32_t joining(
+    const uint16_t *params, size_t params_len, const int32_t *px, size_t px_len, const int32_t *py, size_t py_len,
+    const int32_t *tx, size_t tx_len, const int32_t *ty, size_t ty_len, uint16_t *out_knots, size_t out_knots_len,
+    int32_t *out_xs, size_t out_xs_len, int32_t *out_ys, size_t out_ys_len, size_t *points);
+
+static uint32_t join(joining *export)
 {
     size_t params_len, px_len, py_len, tx_len, ty_len;
     const uint16_t *params = take_list("params", 2, &params_len);
@@ -157,8 +163,7 @@ static uint32_t join(void)
     const int32_t *tx = take_list("tx", 4, &tx_len), *ty = take_list("ty", 4, &ty_len);
     struct result r = take_result();
     size_t *points = lend_number("points", sizeof *points);
-    uint32_t refusal =
-        tsb_join(params, params_len, px, px_len, py, py_len, tx, tx_len, ty, ty_len, PLACES(r), points);
+    uint32_t refusal = export(params, params_len, px, px_len, py, py_len, tx, tx_len, ty, ty_len, PLACES(r), points);
     put_number(refusal);
     if (refusal == TSB_OK)
         put_count(*points);
@@ -256,13 +261,14 @@ int call_export(unsigned char number, size_t step, struct outcome *outcome)
     case 4: outcome->ending = ending_of(insert_or_remove(0)); break;
     case 5: outcome->ending = ending_of(insert_or_remove(1)); break;
     case 6: outcome->ending = ending_of(compact()); break;
-    case 7: outcome->ending = ending_of(join()); break;
+    case 7: outcome->ending = ending_of(join(tsb_join_through_points)); break;
     case 8: outcome->ending = ending_of(spans()); break;
     case 9: outcome->ending = ending_of(write_record()); break;
     case 10: outcome->ending = ending_of(read_record()); break;
     case 11: outcome->ending = ending_of(read_job()); break;
     /* 12 is the text of clampcheck, which has no export */
     case 13: outcome->goes_on = feed_step(step, &outcome->ending); break;
+    case 14: outcome->ending = ending_of(join(tsb_join)); break;
     default: return 0;
     }
     outcome->wrong = counts_fit() ? wrong : "a count or a place does not fit into 32 bits";
