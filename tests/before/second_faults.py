@@ -23,6 +23,8 @@ NOWHERE = (
     ("Check", ("check",)),
     ("read_record:left_over", ()),
     ("read_job:left_over", ("read_record",)),
+    ("join_through_points:keeps_meeting", ()),
+    ("join:keeps_meeting", ("join_through_points",)),
 )
 
 

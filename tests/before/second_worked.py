@@ -1,6 +1,6 @@
 """The second program itself, held to the cases of the scope and of tests/worked.txt that are worked by hand, and to laws that any
-right program keeps: insertion keeps the curve, joining is the Hermite cubic, removal is what a search over polygons finds, feeding is reading what was
-joined."""
+right program keeps: insertion keeps the curve, joining is the Hermite cubic however often its knots stand, removal is what a search over polygons
+finds, feeding is reading what was joined."""
 
 import sys
 import unittest
@@ -12,20 +12,21 @@ sys.dont_write_bytecode = True
 sys.path.insert(0, str(Path(__file__).resolve().parent.parent))
 
 from harness.compare import difference
-from harness.shapes import EXPORTED, SHAPES, Reader
+from harness.shapes import EXPORTED, JOINING, SHAPES, Reader
 from harness.worked import Unreadable, worked_cases
 from second_program import feeding, vectors
 from second_program.broken_cases import broken_jobs, broken_records, changed, fields_of, joined
 from second_program.clamp_cases import random_fraction
-from second_program.curve import Curve, basis, check, domain, exact_point, point_at, span_of
+from second_program.curve import Curve, basis, check, domain, exact_point, point_at, span_of, within
 from second_program.dice import Dice
-from second_program.expected import WIDE, WORKED_A, WORKED_B
+from second_program.doubled_cases import deciding_places, meeting_at_the_edge, one_at_the_edge, one_unwhole, some_widths, uneven_points, widths_of
+from second_program.expected import WIDE, WORKED_A, WORKED_B, each_one_short
 from second_program.fed_vectors import feed
 from second_program.feed_cases import enough_places, in_bursts
 from second_program.insert_cases import insertable
 from second_program.job_cases import good_job, job_of
 from second_program.join_cases import spline_points
-from second_program.joining import join
+from second_program.joining import THREE_TIMES, TWICE, join, pieces_of
 from second_program.knots import compact, insert_knot, polygon_with, remove_knot
 from second_program.long_feed_cases import longest_fields
 from second_program.random_curves import random_curve
@@ -69,18 +70,30 @@ class WorkedByHand(unittest.TestCase):
 
     def test_joined_then_compacted(self):
         for bends in SMOOTH:
-            curve = smooth_joined(bends)
-            number, new, removed = compact(curve, WIDE)
-            inner = [t for t in new.knots if 0 < t < 18]
-            self.assertEqual((number, inner, removed), (0, [b for b, _ in bends], len(curve.xs) - len(new.xs)))
-            for k in range(0, 18 * 4 + 1):
-                self.assertEqual(exact_point(new, Fraction(k, 4)), exact_point(curve, Fraction(k, 4)))
+            for times in (TWICE, THREE_TIMES):
+                curve = smooth_joined(bends, times)
+                number, new, removed = compact(curve, WIDE)
+                inner = [t for t in new.knots if 0 < t < 18]
+                self.assertEqual((number, inner, removed), (0, [b for b, _ in bends], len(curve.xs) - len(new.xs)))
+                for k in range(0, 18 * 4 + 1):
+                    self.assertEqual(exact_point(new, Fraction(k, 4)), exact_point(curve, Fraction(k, 4)))
 
-    def test_joining(self):
-        number, new = join([0, 12], [0, 12], [0, 0], [1, 1], [1, -1], WIDE)
-        self.assertEqual((number, new.xs, new.ys), (0, [0, 4, 8, 12], [0, 4, 4, 0]))
-        self.assertEqual(new.knots, [0] * 4 + [12] * 4)
-        self.assertEqual(join([0, 4], [0, 12], [0, 0], [1, 1], [1, -1], WIDE)[0], 11)
+    def test_joining_two_points(self):
+        for times in (TWICE, THREE_TIMES):
+            number, new = join([0, 12], [0, 12], [0, 0], [1, 1], [1, -1], WIDE, times)
+            self.assertEqual((number, new.xs, new.ys), (0, [0, 4, 8, 12], [0, 4, 4, 0]))
+            self.assertEqual(new.knots, [0] * 4 + [12] * 4)
+            self.assertEqual(join([0, 4], [0, 12], [0, 0], [1, 1], [1, -1], WIDE, times)[0], 11)
+
+    def test_joining_three_points(self):
+        """The pieces have x 0 1 5 6 and 6 8 10 12, y 0 -2 -6 -6 and -6 -6 -10 0."""
+        points = [0, 3, 9], [0, 6, 12], [0, -6, 0], [1, 1, 1], [-2, 0, 5]
+        two = Curve(3, [0] * 4 + [3, 3] + [9] * 4, [0, 1, 5, 8, 10, 12], [0, -2, -6, -6, -10, 0])
+        three = Curve(3, [0] * 4 + [3, 3, 3] + [9] * 4, [0, 1, 5, 6, 8, 10, 12], [0, -2, -6, -6, -6, -10, 0])
+        for times, curve, room in ((TWICE, two, (10, 6, 6)), (THREE_TIMES, three, (11, 7, 7))):
+            self.assertEqual(join(*points, room, times), (0, curve))
+            for short in each_one_short(room):
+                self.assertEqual(join(*points, short, times)[0], 15)
 
     def test_limits(self):
         line = lambda points: Curve(1, [0, *range(points), points - 1], [0] * points, [0] * points)
@@ -105,7 +118,7 @@ def by_second_program(case):
     reader.number("u8")
     given = [reader.value(kind) for _, kind in SHAPES[case.call].arguments]
     make, room = feed if case.call == "feed" else getattr(vectors, case.call), tuple(case.places)
-    if case.call == "join_through_points":
+    if SHAPES[case.call] is JOINING:
         return make(*given, room)
     if case.call in ("read_record", "read_job"):
         return make(bytes(given[0]), room, 0)
@@ -216,6 +229,104 @@ def ends_in_length(take, data):
     return fault_of(take, data[:-2] + b"\xff") == (19, len(data) - 2)
 
 
+def hermite(points, i, u):
+    """The point at the share u of piece i, by the Hermite cubic of its two points and tangents."""
+    params, px, py, tx, ty = points
+    h = params[i + 1] - params[i]
+    weights = (2 * u**3 - 3 * u**2 + 1, h * (u**3 - 2 * u**2 + u), 3 * u**2 - 2 * u**3, h * (u**3 - u**2))
+    return tuple(sum(w * c for w, c in zip(weights, (p[i], d[i], p[i + 1], d[i + 1]))) for p, d in ((px, tx), (py, ty)))
+
+
+def whole(c):
+    return c.denominator == 1
+
+
+def deciding(points, holds):
+    """The places of the control points of which something does not hold: piece and point."""
+    params, px, py, tx, ty = points
+    axes = pieces_of(params, px, tx), pieces_of(params, py, ty)
+    return [(i, k) for pieces in axes for i, piece in enumerate(pieces) for k, c in enumerate(piece) if not holds(c)]
+
+
+def one_more_of_each(curve, values):
+    """The curve with each of the values inserted once."""
+    for v in values:
+        number, curve = insert_knot(curve, v, WIDE)
+        if number:
+            return number
+    return curve
+
+
+class Joined(unittest.TestCase):
+    """What both choices have in common, and what parts them."""
+
+    def setUp(self):
+        self.dice = Dice(2)
+
+    def some_points(self):
+        """Random spline points, and some that have uneven pieces and free tangents."""
+        return [spline_points(self.dice) for _ in range(20)] + [uneven_points(self.dice, some_widths(self.dice)) for _ in range(20)]
+
+    def longest(self):
+        return uneven_points(self.dice, widths_of(self.dice, 341))
+
+    def test_either_is_the_hermite_cubic(self):
+        for points in [*self.some_points(), self.longest()]:
+            params = points[0]
+            for times in (TWICE, THREE_TIMES):
+                curve = join(*points, WIDE, times)[1]
+                for i in {0, len(params) - 2, self.dice.between(0, len(params) - 2)}:
+                    for u in (Fraction(0), Fraction(1), Fraction(self.dice.between(1, 96), 97)):
+                        self.assertEqual(exact_point(curve, params[i] + (params[i + 1] - params[i]) * u), hermite(points, i, u))
+
+    def test_sizes(self):
+        for points in [*self.some_points(), self.longest()]:
+            k = len(points[0]) - 1
+            for times, size in ((TWICE, 2 * k + 2), (THREE_TIMES, 3 * k + 1)):
+                curve = join(*points, WIDE, times)[1]
+                self.assertEqual((check(curve), len(curve.xs), len(curve.knots)), (0, size, size + 4))
+                self.assertEqual([curve.knots.count(s) for s in points[0]], [4] + [times] * (k - 1) + [4])
+
+    def test_one_more_of_each_inner_parameter(self):
+        """Inserting makes of the one choice the other, and removing goes back; so the meeting points are on the curve."""
+        for points in [*self.some_points(), self.longest()]:
+            (_, two), (_, three) = (join(*points, WIDE, times) for times in (TWICE, THREE_TIMES))
+            inner = points[0][1:-1]
+            self.assertEqual(one_more_of_each(two, inner), three)
+            self.assertEqual(one_more_of_each(two, inner[::-1]), three)
+            self.assertEqual((three.xs[::3], three.ys[::3]), tuple(points[1:3]))
+            for v in inner[:9]:
+                three = remove_knot(three, v, WIDE)[1]
+            self.assertEqual(three, one_more_of_each(two, inner[9:]))
+
+    def test_compacting_ends_alike(self):
+        for points in self.some_points():
+            (_, two), (_, three) = (join(*points, WIDE, times) for times in (TWICE, THREE_TIMES))
+            (number, one, removed), (_, other, more) = compact(two, WIDE), compact(three, WIDE)
+            self.assertEqual((number, one, removed + len(points[0]) - 2), (0, other, more))
+
+    def test_refusals_are_the_same(self):
+        """But for 15, whose room is that of the choice itself."""
+        told = set()
+        for _ in range(200):
+            points = [list(one) for one in spline_points(self.dice, steep=self.dice.pick((None, 2**30)))]
+            self.dice.pick(points)[0] += self.dice.pick((0, 1, 2**18))
+            two, three = (join(*points, WIDE, times)[0] for times in (TWICE, THREE_TIMES))
+            self.assertEqual(two, three)
+            told.add(two)
+        self.assertEqual(told, {0, 7, 11, 17, 18})
+
+    def test_one_point_decides(self):
+        """Of the spline points that are made for it."""
+        for _ in range(9):
+            widths = some_widths(self.dice)
+            for piece, inner in deciding_places(self.dice, widths):
+                self.assertEqual(deciding(one_unwhole(self.dice, widths, piece, inner), whole), [(piece, inner)])
+                self.assertEqual(deciding(one_at_the_edge(self.dice, widths, piece, inner, 1), within), [(piece, inner)])
+                self.assertEqual(deciding(one_at_the_edge(self.dice, widths, piece, inner, 0), within), [])
+            self.assertEqual(join(*meeting_at_the_edge(self.dice, widths, 1), WIDE, TWICE)[0], 7)
+
+
 class Laws(unittest.TestCase):
     def setUp(self):
         self.dice = Dice(1)
@@ -234,19 +345,6 @@ class Laws(unittest.TestCase):
             for u in (*domain(curve), v, random_fraction(self.dice, curve)):
                 self.assertEqual(exact_point(curve, u), exact_point(new, u))
             self.assertEqual(remove_knot(new, v, WIDE), (0, curve))
-
-    def test_joining_is_the_hermite_cubic(self):
-        for _ in range(20):
-            params, px, py, tx, ty = spline_points(self.dice)
-            curve = join(params, px, py, tx, ty, WIDE)[1]
-            i = self.dice.between(0, len(params) - 2)
-            h = params[i + 1] - params[i]
-            u = Fraction(self.dice.between(0, 12), 12)
-            weights = (2 * u**3 - 3 * u**2 + 1, h * (u**3 - 2 * u**2 + u), 3 * u**2 - 2 * u**3, h * (u**3 - u**2))
-            hermite = [
-                sum(w * c for w, c in zip(weights, (p[i], d[i], p[i + 1], d[i + 1]))) for p, d in ((px, tx), (py, ty))
-            ]
-            self.assertEqual(list(exact_point(curve, params[i] + h * u)), hermite)
 
     def test_records_come_back(self):
         for _ in range(40):

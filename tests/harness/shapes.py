@@ -35,6 +35,7 @@ class Shape(NamedTuple):
         return (self.values if number == 0 else self.broken if number in PLACED else ()) + self.always
 
 
+JOINING = Shape(SPLINE_POINTS, (("points", "u32"),), LISTS)
 SHAPES = dict(
     check=Shape(CURVE),
     point_at=Shape(CURVE + (("t", "u32"),), (("x", "f64"), ("y", "f64"))),
@@ -42,13 +43,14 @@ SHAPES = dict(
     insert_knot=Shape(CURVE + (("v", "u32"),), (("points", "u32"),), LISTS),
     remove_knot=Shape(CURVE + (("v", "u32"),), (("points", "u32"),), LISTS),
     compact=Shape(CURVE, (("removed", "u32"),), LISTS),
-    join_through_points=Shape(SPLINE_POINTS, (("points", "u32"),), LISTS),
+    join_through_points=JOINING,
     list_spans_met=Shape(CURVE + SIDES, (("spans", "u32"),), (("lows", "u16"), ("highs", "u16"))),
     write_record=Shape(CURVE, (("length", "u32"),), (("bytes", "u8"),)),
     read_record=Shape((("bytes", "u8[]"),), (("degree", "u32"), ("points", "u32")), LISTS, broken=PLACE),
     read_job=Shape((("bytes", "u8[]"),), JOB, LISTS + SIDES_LIST, broken=PLACE),
     clampcheck_text=Shape((("bytes", "u8[]"),), always=(("text", "text"),)),
     feed=Shape((("places", "u32"), ("front", "u8[]"), ("received", "u64")), JOB, LISTS + SIDES_LIST, broken=PLACE),
+    join=JOINING,
 )
 assert tuple(SHAPES) == CALLS
 EXPORTED = tuple(call for call in CALLS if call != "clampcheck_text")  # the text of clampcheck has no export

@@ -5,6 +5,7 @@ from . import vectors
 from .clamp_cases import list_spans_met_cases
 from .curve_cases import carrying_cases, check_cases, point_at_cases
 from .dice import Dice
+from .doubled_cases import join_cases
 from .feed_cases import feed_cases
 from .insert_cases import insert_knot_cases
 from .job_cases import clampcheck_text_cases, read_job_cases
@@ -26,6 +27,7 @@ SECTIONS = dict(
     read_job=read_job_cases,
     clampcheck_text=clampcheck_text_cases,
     feed=feed_cases,
+    join=join_cases,
 )
 
 

@@ -9,7 +9,8 @@ from functools import wraps
 PLANTED = os.environ.get("SECOND_FAULT")
 _answering = []
 
-# Faults beside the one that each call has: of a reader's places, of what it tells first, and of what is kept between bursts.
+# Faults beside the one that each call has: of a reader's places, of what it tells first, of what is kept between bursts, and of the points where
+# joined pieces meet.
 MORE = (
     "read_record:length_place",  # the place of a length told as that of its tag
     "read_record:ended_first",  # 16 where the length is wrong and the contents run out too
@@ -26,6 +27,11 @@ MORE = (
     "feed:forgets",  # the count lost by an end that is refused for its work list
     "feed:stale",  # the count kept by an end that is refused otherwise
     "feed:room_is_room",  # the count kept by an end whose result does not fit
+    "join:keeps_meeting",  # the points where pieces meet kept in the polygon, on knots that stand twice
+    "join:last_piece",  # in front of the last piece the knot three times, and the point where it meets kept: the same exact curve
+    "join:room_of_three",  # 15 judged by what knots that stand three times need
+    "join:last_unjudged",  # 11 and 18 not judged over the last piece
+    "join:range_first",  # 18 told before 11
 )
 
 

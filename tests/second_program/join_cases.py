@@ -1,10 +1,20 @@
-"""Cases of `join_through_points`."""
+"""Cases of `join_through_points`, and of them those that `join` is asked too, with room for what the choice itself gives."""
 
 from . import vectors
 from .curve import FARTHEST, HIGHEST_KNOT
 from .expected import EACH_REFUSAL, SUCCESSES, WIDE, any_room, expect, one_short, room_for, spare_room
-from .joining import join
+from .joining import THREE_TIMES, TWICE, join
 from .random_curves import random_coordinates
+
+
+def number_of(points):
+    """What joining answers where there is room, whichever choice is taken."""
+    return join(*points, WIDE, TWICE)[0]
+
+
+def room_of(points, times):
+    """What the result of one choice needs."""
+    return room_for(join(*points, WIDE, times)[1])
 
 
 def spline_points(dice, count=None, reach=None, steep=None):
@@ -18,8 +28,9 @@ def spline_points(dice, count=None, reach=None, steep=None):
         widest = max(b - a for a, b in zip(params, params[1:]))
         top = min(FARTHEST, (steep or FARTHEST // 2) // widest + 1)
         tx, ty = ([3 * dice.between(-(top // 3), top // 3) for _ in range(count)] for _ in range(2))
-        if steep or join(params, px, py, tx, ty, WIDE)[0] == 0:
-            return params, px, py, tx, ty
+        points = params, px, py, tx, ty
+        if steep or number_of(points) == 0:
+            return points
 
 
 def loosen(dice, points):
@@ -29,7 +40,7 @@ def loosen(dice, points):
         params = [params[0], params[0] + 3 * dice.between(1, 40)]
         if params[1] <= HIGHEST_KNOT:
             tx, ty = (random_coordinates(dice, 2, 50) for _ in range(2))
-            if join(params, px, py, tx, ty, WIDE)[0] == 0:
+            if number_of((params, px, py, tx, ty)) == 0:
                 return params, px, py, tx, ty
     return points
 
@@ -64,7 +75,7 @@ def spoil_thirds(dice, points):
         dice.pick(lists[3:])[dice.between(0, len(points[0]) - 1)] += dice.pick((-2, -1, 1, 2))
         if dice.chance(3):
             lists[1][0] = dice.pick((-FARTHEST, FARTHEST))
-        if join(*lists, WIDE)[0] == 11:
+        if number_of(lists) == 11:
             return lists
         points = spline_points(dice)
 
@@ -72,18 +83,19 @@ def spoil_thirds(dice, points):
 def far_joined(dice):
     while True:
         points = spline_points(dice, reach=FARTHEST, steep=dice.pick((FARTHEST, 2**30, 2**32)))
-        if join(*points, WIDE)[0] == 18:
+        if number_of(points) == 18:
             return points
 
 
-def join_through_points_cases(dice):
-    make = vectors.join_through_points
+def either_choice_cases(dice, make, times):
+    """What both choices are asked."""
     yield expect(0, make([0, 12], [0, 12], [0, 0], [1, 1], [1, -1], (8, 4, 4)))
     yield expect(11, make([0, 4], [0, 12], [0, 0], [1, 1], [1, -1], (8, 4, 4)))
     for _ in range(2 * SUCCESSES):
         points = loosen(dice, spline_points(dice))
-        yield expect(0, make(*points, spare_room(dice, room_for(join(*points, WIDE)[1]))))
-    yield expect(0, make(*spline_points(dice, count=342), (1028, 1024, 1024)))
+        yield expect(0, make(*points, spare_room(dice, room_of(points, times))))
+    points = spline_points(dice, count=342)
+    yield expect(0, make(*points, room_of(points, times)))
     long = list(range(343))
     yield expect(17, make(long, long, long, [0] * 343, [0] * 343, (3, 2, 1)))
     for _ in range(2 * EACH_REFUSAL):
@@ -100,4 +112,8 @@ def join_through_points_cases(dice):
         yield expect(18, make(*far_joined(dice), any_room(dice, 3)))
     for _ in range(EACH_REFUSAL):
         points = spline_points(dice)
-        yield expect(15, make(*points, one_short(dice, room_for(join(*points, WIDE)[1]))))
+        yield expect(15, make(*points, one_short(dice, room_of(points, times))))
+
+
+def join_through_points_cases(dice):
+    yield from either_choice_cases(dice, vectors.join_through_points, THREE_TIMES)

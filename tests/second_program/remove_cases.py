@@ -17,7 +17,7 @@ from .expected import (
     spare_room,
 )
 from .insert_cases import insertable, insertable_value, window
-from .joining import join
+from .joining import THREE_TIMES, join
 from .knots import compact, insert_knot, polygon_with, remove_knot
 from .random_curves import outside_parameter, random_curve, random_knots
 
@@ -134,7 +134,7 @@ def knotted(dice, m):
     return curve
 
 
-def smooth_joined(bends):
+def smooth_joined(bends, times=THREE_TIMES):
     """Spline points at 0, 3, .., 18 joined: a cubic whose third derivative changes at the bends and nowhere else."""
     params = list(range(0, 21, 3))
     jumps = [(0, 1)] + list(bends)
@@ -142,7 +142,7 @@ def smooth_joined(bends):
     tx = [sum(3 * a * (s - b) ** 2 for b, a in jumps if b <= s) - 40 for s in params]
     py = [7 * s * s - 90 * s for s in params]
     ty = [14 * s - 90 for s in params]
-    number, curve = join(params, px, py, tx, ty, WIDE)
+    number, curve = join(params, px, py, tx, ty, WIDE, times)
     assert number == 0
     return curve
 

@@ -36,6 +36,7 @@ CALLS = (
     "read_job",
     "clampcheck_text",
     "feed",
+    "join",
 )
 must_be_of(CALLS)
 FORMATS = {"u8": "B", "u16": "H", "i32": "i"}
@@ -142,13 +143,23 @@ def compact(curve, room):
     return case("compact", number, arguments, counts + lists_after(number, new, room), size(curve), curve)
 
 
-@answering
-def join_through_points(params, px, py, tx, ty, room):
-    number, new = joining.join(params, px, py, tx, ty, room)
+def join_call(times, params, px, py, tx, ty, room):
+    """Joining with the parameters where pieces meet so many times among the knots."""
+    number, new = joining.join(params, px, py, tx, ty, room, times)
     counts = u32(len(new.xs)) if number == 0 else b""
     arguments = lent_list("u16", params) + b"".join(lent_list("i32", one) for one in (px, py, tx, ty)) + u32(*room)
     points = max(len(one) for one in (params, px, py, tx, ty))
-    return case("join_through_points", number, arguments, counts + lists_after(number, new, room), points, new)
+    return case(joining.CALLED[times], number, arguments, counts + lists_after(number, new, room), points, new)
+
+
+@answering
+def join_through_points(params, px, py, tx, ty, room):
+    return join_call(joining.THREE_TIMES, params, px, py, tx, ty, room)
+
+
+@answering
+def join(params, px, py, tx, ty, room):
+    return join_call(joining.TWICE, params, px, py, tx, ty, room)
 
 
 @answering
