@@ -1,6 +1,6 @@
 -- The joined curve cut at any piece: what stands before it, and what follows from it on. So its lengths.
 use mathlib.Core.List.{List, [], _∷_, _++_, append-assoc}
-use mathlib.Core.Path.{_≡_, refl, sym, ap, _∙_}
+use mathlib.Core.Path.{_≡_, sym, ap, _∙_}
 use Prim.Native.Nat.{ℕ, zero, suc, _+_, _-_, _*_, _≤_}
 use native.Mathlib.Nat.{mul-zero, mul-suc}
 use native.Mathlib.Omega.{arith}
@@ -9,14 +9,14 @@ use lib.ListN.{length, getD, replicate, length-append, length-replicate}
 use Rattle.spline_pieces.specs.Pieces.{Piece, pieceOf, pieceAt, piecesFrom, pieces}
 use Rattle.joined_curve.specs.Curve.{endKnots, knotsAfter, joinedKnots, pointsAfter, joinedPoints}
 
--- the knots before the end of piece i, and those from it on with `count` pieces to come
+-- the knots before the end of piece i
 unfoldable pub knotsBefore : ℕ → List ℕ → ℕ → List ℕ
 knotsBefore inner ss zero = replicate endKnots (getD ss 0 0)
 knotsBefore inner ss (suc i) = knotsBefore inner ss i ++ replicate inner (getD ss (suc i) 0)
 
-unfoldable pub knotsFrom : ℕ → List ℕ → ℕ → ℕ → List ℕ
-knotsFrom inner ss i zero = replicate endKnots (getD ss (suc i) 0)
-knotsFrom inner ss i (suc count) = replicate inner (getD ss (suc i) 0) ++ knotsFrom inner ss (suc i) count
+-- the knots from there on, with `count` pieces to come behind piece i
+abbrev pub knotsFrom : ℕ → List ℕ → List ℤ → List ℤ → ℕ → ℕ → List ℕ
+knotsFrom inner ss ps ds i count = knotsAfter inner (pieceAt ss ps ds i) (piecesFrom ss ps ds (suc i) count)
 
 -- the first two points of a piece after its start, and its end where it is a point of the curve
 unfoldable pub inPiece : ℕ → Piece → List ℤ
@@ -32,15 +32,10 @@ abbrev pub pointsFrom : ℕ → List ℕ → List ℤ → List ℤ → ℕ → �
 pointsFrom inner ss ps ds i count = pointsAfter inner (pieceAt ss ps ds i) (piecesFrom ss ps ds (suc i) count)
 
 module _ (inner : ℕ) (ss : List ℕ) (ps ds : List ℤ) where
-  after-is : (i count : ℕ) → knotsAfter inner (pieceAt ss ps ds i) (piecesFrom ss ps ds (suc i) count) ≡ knotsFrom inner ss i count
-  unfolding knotsAfter knotsFrom piecesFrom pieceAt pieceOf
-  after-is i zero = refl
-  after-is i (suc count) = ap (λ l. replicate inner (getD ss (suc i) 0) ++ l) (after-is (suc i) count)
-
   -- one piece further
-  knots-on : (i count : ℕ) → knotsBefore inner ss i ++ knotsFrom inner ss i (suc count) ≡ knotsBefore inner ss (suc i) ++ knotsFrom inner ss (suc i) count
-  unfolding knotsBefore knotsFrom
-  knots-on i count = sym (append-assoc (knotsBefore inner ss i) (replicate inner (getD ss (suc i) 0)) (knotsFrom inner ss (suc i) count))
+  knots-on : (i count : ℕ) → knotsBefore inner ss i ++ knotsFrom inner ss ps ds i (suc count) ≡ knotsBefore inner ss (suc i) ++ knotsFrom inner ss ps ds (suc i) count
+  unfolding knotsBefore knotsAfter piecesFrom pieceAt pieceOf
+  knots-on i count = sym (append-assoc (knotsBefore inner ss i) (replicate inner (getD ss (suc i) 0)) (knotsFrom inner ss ps ds (suc i) count))
 
   points-on : (i count : ℕ) → pointsBefore inner ss ps ds i ++ pointsFrom inner ss ps ds i (suc count) ≡ pointsBefore inner ss ps ds (suc i) ++ pointsFrom inner ss ps ds (suc i) count
   unfolding pointsBefore inPiece pointsAfter piecesFrom
@@ -54,11 +49,11 @@ module _ (inner : ℕ) (ss : List ℕ) (ps ds : List ℤ) where
       rw count
 
   pub knots-cut : 2 ≤ length ss → (i count : ℕ) → i + count ≡ length ss - 2
-      → joinedKnots inner (pieces ss ps ds) ≡ knotsBefore inner ss i ++ knotsFrom inner ss i count
+      → joinedKnots inner (pieces ss ps ds) ≡ knotsBefore inner ss i ++ knotsFrom inner ss ps ds i count
   unfolding joinedKnots knotsBefore pieceAt pieceOf
   knots-cut some zero count e =
       let all : length ss - 2 ≡ count = omega arith in
-      rw (pieces-are some, all) (ap (λ l. replicate endKnots (getD ss 0 0) ++ l) (after-is 0 count))
+      rw (pieces-are some, all)
   knots-cut some (suc i) count e = knots-cut some i (suc count) (omega arith) ∙ knots-on i count
 
   pub points-cut : 2 ≤ length ss → (i count : ℕ) → i + count ≡ length ss - 2
@@ -78,10 +73,10 @@ module _ (inner : ℕ) (ss : List ℕ) (ps ds : List ℤ) where
       ∙ omega (arith, knotsBefore-length i, length-replicate inner (getD ss (suc i) 0), mul-suc inner i)
 
   pub knots-length : 2 ≤ length ss → length (joinedKnots inner (pieces ss ps ds)) ≡ inner * (length ss - 2) + 8
-  unfolding knotsFrom
+  unfolding knotsAfter piecesFrom
   knots-length some =
       ap length (knots-cut some (length ss - 2) 0 (omega arith))
-      ∙ length-append (knotsBefore inner ss (length ss - 2)) (knotsFrom inner ss (length ss - 2) 0)
+      ∙ length-append (knotsBefore inner ss (length ss - 2)) (knotsFrom inner ss ps ds (length ss - 2) 0)
       ∙ omega (arith, knotsBefore-length (length ss - 2))
 
 module _ (inner : ℕ) (least : 2 ≤ inner) (ss : List ℕ) (ps ds : List ℤ) where

@@ -8,9 +8,9 @@ use lib.IntN.{ℤ, pos}
 use lib.ListN.{length, getD, replicate, length-append, length-replicate, replicate-append-replicate}
 use lib.Seq.{sets}
 use Rattle.lent.specs.Lent.{over}
-use Rattle.spline_pieces.specs.Pieces.{Piece, pieceAt, piecesFrom, pieces}
-use Rattle.joined_curve.specs.Curve.{endKnots, EitherNumber, joinedKnots, pointsAfter, joinedPoints}
-use Rattle.joined_curve.proofs.CurveLaws.{knotsBefore, knotsFrom, inPiece, pointsBefore, knots-cut, points-cut, knotsBefore-length, pointsBefore-length}
+use Rattle.spline_pieces.specs.Pieces.{Piece, pieceOf, pieceAt, piecesFrom, pieces}
+use Rattle.joined_curve.specs.Curve.{endKnots, EitherNumber, knotsAfter, joinedKnots, pointsAfter, joinedPoints}
+use Rattle.joined_curve.proofs.CurveLaws.{knotsBefore, inPiece, pointsBefore, knots-cut, points-cut, knotsBefore-length, pointsBefore-length}
 use Rattle.joined_curve.proofs.PutLaws.{block-put, Grown, grown-room, grown-more}
 
 -- the knots up to parameter i
@@ -106,7 +106,7 @@ module _ (inner : ℕ) (either : EitherNumber inner) where
 -- after the last piece
 module _ (inner : ℕ) (ss : List ℕ) (ps ds : List ℤ) (i : ℕ) (last : i + 2 ≡ length ss) where
   pub knots-grown : knotsTo inner ss (suc i) ≡ joinedKnots inner (pieces ss ps ds)
-  unfolding knotsTo knotsFrom
+  unfolding knotsTo knotsAfter piecesFrom pieceAt pieceOf
   knots-grown = sym (knots-cut inner ss ps ds (omega arith) i 0 (omega arith))
 
   pub points-grown : pointsTo inner ss ps ds (suc i) ≡ joinedPoints inner (pieces ss ps ds)

@@ -30,21 +30,27 @@ second-at-5 : Equals (hermiteCoordinate params points tangents 1 5 1) (over (neg
 unfolding hermiteCoordinate numeral sum product negation turned reciprocal
 second-at-5 = refl
 
--- the joined curve's knots and points, and the exact curve at the same two parameters and where the pieces meet
+-- the joined curve's knots and points, with three inner knots and with two, and both exact curves at the same two parameters and where the pieces meet
 abbrev knots : List ℕ
 knots = 0 ∷ 0 ∷ 0 ∷ 0 ∷ 3 ∷ 3 ∷ 3 ∷ 9 ∷ 9 ∷ 9 ∷ 9 ∷ []
 
 abbrev joined : List ℤ
 joined = pos 0 ∷ pos 1 ∷ negsuc 3 ∷ negsuc 5 ∷ negsuc 9 ∷ pos 6 ∷ pos 12 ∷ []
 
-joined-at-3/2 : Equals (exactAt 3 knots joined 3 2) (over (negsuc 14) 8)
-unfolding spanOf exactCoordinate curveAt sumOf basis sum product negation turned reciprocal
-joined-at-3/2 = refl
+abbrev twice-knots : List ℕ
+twice-knots = 0 ∷ 0 ∷ 0 ∷ 0 ∷ 3 ∷ 3 ∷ 9 ∷ 9 ∷ 9 ∷ 9 ∷ []
 
-joined-at-5 : Equals (exactAt 3 knots joined 5 1) (over (negsuc 39) 9)
-unfolding spanOf exactCoordinate curveAt sumOf basis sum product negation turned reciprocal
-joined-at-5 = refl
+abbrev twice-joined : List ℤ
+twice-joined = pos 0 ∷ pos 1 ∷ negsuc 3 ∷ negsuc 9 ∷ pos 6 ∷ pos 12 ∷ []
 
-joined-at-3 : Equals (exactAt 3 knots joined 3 1) (whole (negsuc 5))
+joined-at-3/2 : Equals (exactAt 3 knots joined 3 2) (over (negsuc 14) 8) × Equals (exactAt 3 twice-knots twice-joined 3 2) (over (negsuc 14) 8)
 unfolding spanOf exactCoordinate curveAt sumOf basis sum product negation turned reciprocal
-joined-at-3 = refl
+joined-at-3/2 = (refl, refl)
+
+joined-at-5 : Equals (exactAt 3 knots joined 5 1) (over (negsuc 39) 9) × Equals (exactAt 3 twice-knots twice-joined 5 1) (over (negsuc 39) 9)
+unfolding spanOf exactCoordinate curveAt sumOf basis sum product negation turned reciprocal
+joined-at-5 = (refl, refl)
+
+joined-at-3 : Equals (exactAt 3 knots joined 3 1) (whole (negsuc 5)) × Equals (exactAt 3 twice-knots twice-joined 3 1) (whole (negsuc 5))
+unfolding spanOf exactCoordinate curveAt sumOf basis sum product negation turned reciprocal
+joined-at-3 = (refl, refl)

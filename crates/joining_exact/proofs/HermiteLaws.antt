@@ -72,12 +72,12 @@ module _ (ss : List ℕ) (ps ds : List ℤ) (rising : Rising ss) (all : allWhole
   second-is : rationalCoordinate us (3 * i + 3 - 2) ≡ class (whole (pieceAt ss ps ds i .leaving))
   second-is =
       let here : 3 * i + 3 - 2 ≡ 3 * i + 1 = omega arith in
-      ap (λ j. rationalCoordinate us j) here ∙ ap (λ z. class (whole z)) (leaving-is ss ps ds (rising .least) i inside)
+      ap (λ j. rationalCoordinate us j) here ∙ ap (λ z. class (whole z)) (leaving-is 3 (omega arith) ss ps ds (rising .least) i (omega arith))
 
   third-is : rationalCoordinate us (3 * i + 3 - 1) ≡ class (whole (pieceAt ss ps ds i .arriving))
   third-is =
       let here : 3 * i + 3 - 1 ≡ 3 * i + 2 = omega arith in
-      ap (λ j. rationalCoordinate us j) here ∙ ap (λ z. class (whole z)) (arriving-is ss ps ds (rising .least) i inside)
+      ap (λ j. rationalCoordinate us j) here ∙ ap (λ z. class (whole z)) (arriving-is 3 (omega arith) ss ps ds (rising .least) i (omega arith))
 
   pub span-is-hermite : Equals (exactCoordinate ts us 3 (3 * i + 3) p q) (hermiteCoordinate ss ps ds i p q)
   unfolding pieceAt pieceOf
@@ -88,7 +88,7 @@ module _ (ss : List ℕ) (ps ds : List ℤ) (rising : Rising ss) (all : allWhole
       equals-of-class (exactCoordinate ts us 3 (3 * i + 3) p q) (hermiteCoordinate ss ps ds i p q)
       (exact-class ts us 3 (3 * i + 3) p q
       ∙ piece-is-hermite rational (rationalKnot ts) (rationalCoordinate us) (3 * i + 3) (class (wholeN low)) (class (wholeN high)) (rationalParameter p q)
-      (omega arith) starts ends (length us) (omega (arith, points-length ss ps ds (rising .least)))
+      (omega arith) starts ends (length us) (omega (arith, points-length 3 (omega arith) ss ps ds (rising .least)))
       (class (whole (getD ds i (pos 0)))) (class (whole (getD ds (suc i) (pos 0)))) (wholeN-below low high .0 next-below)
       (rw (second-is, first-is) (leaving-third low high (le-of-lt next-below) (getD ps i (pos 0)) (getD ds i (pos 0)) (thirds .0)))
       (rw (third-is, last-is) (arriving-third low high (le-of-lt next-below) (getD ps (suc i) (pos 0)) (getD ds (suc i) (pos 0)) (thirds .1)))

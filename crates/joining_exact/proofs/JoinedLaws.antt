@@ -1,5 +1,5 @@
--- The joined curve is the Hermite cubic of its spline points at every fraction: `join-is-hermite`. Left of an interval's right end the span
--- rule gives the interval's own span; at the right end it gives the next one, whose cubic starts where this one ends. So it meets every spline point.
+-- The joined curve with its meeting points is the Hermite cubic of its spline points at every fraction: `thrice-is-hermite`. Left of an interval's
+-- right end the span rule gives the interval's own span; at the right end it gives the next one, whose cubic starts where this one ends.
 use mathlib.Core.Bool.{true}
 use mathlib.Core.List.{List}
 use mathlib.Core.Logic.{_⊎_, inl, inr}
@@ -22,17 +22,19 @@ use Rattle.exact.proofs.ExactLaws.{rationalParameter}
 use Rattle.spline_pieces.specs.Pieces.{pieces, allWhole}
 use Rattle.spline_pieces.specs.Standing.{Rising}
 use Rattle.joined_curve.specs.Curve.{innerThrice, joinedPoints}
-use Rattle.joined_curve.proofs.CurveLaws.{points-length, knots-length}
+use Rattle.joined_curve.specs.Sentences.{KnotsOf}
+use Rattle.joined_curve.proofs.CurveLaws.{points-length}
+use Rattle.joined_curve.proofs.KnotLaws.{joined-knots}
+use Rattle.joining.specs.SplinePoints.{SplinePoints}
 use Rattle.joining.specs.Answer.{joinedLists}
+use Rattle.joining.proofs.StandingLaws.{Joinable}
 use Rattle.joining_exact.specs.HermitePoint.{hermiteCoordinate}
-use Rattle.joining_exact.specs.JoinedCurve.{JoinPasses, HermiteOnAxis, JoinIsHermite, JoinMeetsPoints, JoinHasEntries}
-use Rattle.joined_curve.proofs.KnotLaws.{knot-at}
-use Rattle.joined_curve.proofs.SentenceLaws.{joined-knots, joined-points}
-use Rattle.joining_exact.proofs.PassesLaws.{joined-joinable, joined-rising, joined-checked, joined-passes}
+use Rattle.joining_exact.specs.JoinedCurve.{HermiteOnAxis}
+use Rattle.joining_exact.proofs.PassesLaws.{joined-checked}
 use Rattle.joining_exact.proofs.HermiteLaws.{hermite-class, span-is-hermite, hermite-start, hermite-end}
 
 -- a parameter that is the whole number s
-whole-parameter : (s p q : ℕ) → 0 < q → p ≡ s * q → rationalParameter p q ≡ class (wholeN s)
+pub whole-parameter : (s p q : ℕ) → 0 < q → p ≡ s * q → rationalParameter p q ≡ class (wholeN s)
 whole-parameter s p (suc q) some e = class-of-equals {a = over (pos p) (suc q)} {b = wholeN s} (ap pos cross)
   where
     less : suc (suc q - 1) ≡ suc q
@@ -44,15 +46,15 @@ whole-parameter s p zero some e = absurd (omega arith)
 
 -- what is known of the shared knots `ts` and of one axis
 module _ (ss : List ℕ) (ps ds : List ℤ) (rising : Rising ss) (all : allWhole (pieces ss ps ds) ≡ true) (ts : List ℕ)
-    (count : length ts ≡ 3 * length ss + 2)
+    (count : length ts ≡ 3 * (length ss - 2) + 8)
     (knots : (k r : ℕ) → k < length ss → r < 3 → getD ts (3 * k + 1 + r) 0 ≡ getD ss k 0)
     (ordered : (a b : ℕ) → a ≤ b → b < length ts → getD ts a 0 ≤ getD ts b 0)
     (domain : getD ts 3 0 < getD ts (length (joinedPoints innerThrice (pieces ss ps ds))) 0) where
   abbrev us : List ℤ
   us = joinedPoints innerThrice (pieces ss ps ds)
 
-  size : length us ≡ 3 * length ss - 2
-  size = points-length ss ps ds (rising .least)
+  size : length us ≡ 3 * (length ss - 2) + 4
+  size = points-length 3 (omega arith) ss ps ds (rising .least)
 
   -- the knots round the span of piece i
   low-knot : (i : ℕ) → suc i < length ss → getD ts (3 * i + 3) 0 ≡ getD ss i 0
@@ -130,65 +132,32 @@ module _ (ss : List ℕ) (ps ds : List ℤ) (rising : Rising ss) (all : allWhole
           later : (p q : ℕ) → getD ss (suc i) 0 * q ≤ p → p ≡ getD ss (suc i) 0 * q → suc (suc i) < length ss → 0 < q → p < getD ss (suc (suc i)) 0 * q
           later p q h at room some = omega (arith, mul-le-mul-right q (rising .rises (suc i) room))
 
-pub join-passes : JoinPasses
-join-passes = joined-passes
+-- three times: parameter k stands at 3·k + 1 to 3·k + 3
+thrice-at : (ss ts : List ℕ) → 2 ≤ length ss → KnotsOf innerThrice ss ts → (k r : ℕ) → k < length ss → r < 3 → getD ts (3 * k + 1 + r) 0 ≡ getD ss k 0
+thrice-at ss ts some knots zero r h few =
+    let here : 3 * zero + 1 + r ≡ suc r = omega arith in
+    ap (λ j. getD ts j 0) here ∙ knots .first (suc r) (omega arith)
+thrice-at ss ts some knots (suc i) r h few = by (decLe (length ss) (suc (suc i)))
+  where
+    by : Dec (length ss ≤ suc (suc i)) → getD ts (3 * suc i + 1 + r) 0 ≡ getD ss (suc i) 0
+    by (no more) =
+        let here : 3 * suc i + 1 + r ≡ 3 * i + 4 + r = omega arith in
+        ap (λ j. getD ts j 0) here ∙ knots .inside i r (omega arith) few
+    by (yes last) =
+        let here : 3 * suc i + 1 + r ≡ 3 * (length ss - 2) + 4 + r = omega arith in
+        let end : length ss - 1 ≡ suc i = omega arith in
+        ap (λ j. getD ts j 0) here ∙ knots .last r (omega arith) ∙ ap (λ j. getD ss j 0) end
 
-pub join-is-hermite : JoinIsHermite
-join-is-hermite s lent e =
-    let ss = s .params in
-    let whole = joined-joinable s lent e .whole in
-    let rising = joined-rising s lent e in
-    let checked = joined-checked s lent e in
-    let knots = knot-at ss (s .xs) (s .dxs) (rising .least) in
-    let count = knots-length ss (s .xs) (s .dxs) (rising .least) in (
-      axis-is-hermite ss (s .xs) (s .dxs) rising (whole .0) (joinedLists innerThrice s .knots) count knots (checked .rising) (checked .domain),
-      axis-is-hermite ss (s .ys) (s .dys) rising (whole .1) (joinedLists innerThrice s .knots) count knots (checked .rising)
-          (rw (← (checked .sizes .as-many)) at (checked .domain)),
-    )
-
--- a curve that is the Hermite cubic on every interval meets the points: each but the last where its interval starts, the last where its interval ends
-module _ (ts ss : List ℕ) (us ps ds : List ℤ) (rising : Rising ss) (cubic : HermiteOnAxis ts us ss ps ds) where
-  -- the cubic of interval i at a whole parameter s, by its value there
-  at-whole : (i s : ℕ) (z : ℤ) → suc i < length ss → getD ss i 0 ≤ s → s ≤ getD ss (suc i) 0
-      → hermite rationalOperations (class (wholeN (getD ss i 0))) (class (wholeN (getD ss (suc i) 0)))
-      (class (whole (getD ps i (pos 0)))) (class (whole (getD ps (suc i) (pos 0))))
-      (class (whole (getD ds i (pos 0)))) (class (whole (getD ds (suc i) (pos 0)))) (class (wholeN s))
-      ≡ class (whole z)
-      → Equals (exactAt 3 ts us s 1) (whole z)
-  at-whole i s z inside from to value =
-      let parameter : s ≡ s * 1 = omega arith in
-      let there = cubic i s 1 inside (omega arith) (omega arith) (omega arith) in
-      equals-of-class (exactAt 3 ts us s 1) (whole z)
-      (class-of-equals {a = exactAt 3 ts us s 1} {b = hermiteCoordinate ss ps ds i s 1} there
-      ∙ hermite-class ss ps ds i s 1
-      ∙ rw (whole-parameter s s 1 (omega arith) parameter) value)
-
-  meets-points : (i : ℕ) → i < length ss → Equals (exactAt 3 ts us (getD ss i 0) 1) (whole (getD ps i (pos 0)))
-  meets-points i h = by i h (decLe (length ss) (suc i))
-    where
-      by : (i : ℕ) → i < length ss → Dec (length ss ≤ suc i) → Equals (exactAt 3 ts us (getD ss i 0) 1) (whole (getD ps i (pos 0)))
-      by i h (no more) =
-          at-whole i (getD ss i 0) (getD ps i (pos 0)) (omega arith) (omega arith) (omega (arith, rising .rises i (omega arith)))
-          (hermite-start rational _ _ _ _ _ _)
-      by zero h (yes end) = absurd (omega (arith, rising .least))
-      by (suc k) h (yes end) =
-          let below = rising .rises k h in
-          at-whole k (getD ss (suc k) 0) (getD ps (suc k) (pos 0)) h (omega arith) (omega arith)
-          (hermite-end rational _ _ _ _ _ _ (wholeN-below (getD ss k 0) (getD ss (suc k) 0) .0 below))
-
-pub join-meets-points : JoinMeetsPoints
-join-meets-points s lent e i h =
-    let rising = joined-rising s lent e in
-    let cubics = join-is-hermite s lent e in (
-      meets-points (joinedLists innerThrice s .knots) (s .params) (joinedLists innerThrice s .xs) (s .xs) (s .dxs) rising (cubics .0) i h,
-      meets-points (joinedLists innerThrice s .knots) (s .params) (joinedLists innerThrice s .ys) (s .ys) (s .dys) rising (cubics .1) i h,
-    )
-
-pub join-has-entries : JoinHasEntries
-join-has-entries s lent e =
-    let some = joined-rising s lent e .least in
-    let whole = joined-joinable s lent e .whole in (
-      joined-knots (s .params) (s .xs) (s .dxs) some,
-      joined-points (s .params) (s .xs) (s .dxs) some (whole .0),
-      joined-points (s .params) (s .ys) (s .dys) some (whole .1),
-    )
+module _ (s : SplinePoints) (known : Joinable s) where
+  pub thrice-is-hermite : HermiteOnAxis (joinedLists innerThrice s .knots) (joinedLists innerThrice s .xs) (s .params) (s .xs) (s .dxs)
+      × HermiteOnAxis (joinedLists innerThrice s .knots) (joinedLists innerThrice s .ys) (s .params) (s .ys) (s .dys)
+  thrice-is-hermite =
+      let ss = s .params in
+      let rising = known .standing .x-axis .rising in
+      let checked = joined-checked 3 (omega arith, omega arith) s known in
+      let knots = joined-knots 3 ss (s .xs) (s .dxs) (rising .least) in
+      let at = thrice-at ss (joinedLists innerThrice s .knots) (rising .least) knots in (
+        axis-is-hermite ss (s .xs) (s .dxs) rising (known .whole .0) (joinedLists innerThrice s .knots) (knots .count) at (checked .rising) (checked .domain),
+        axis-is-hermite ss (s .ys) (s .dys) rising (known .whole .1) (joinedLists innerThrice s .knots) (knots .count) at (checked .rising)
+            (rw (← (checked .sizes .as-many)) at (checked .domain)),
+      )

@@ -1,8 +1,9 @@
 -- Laws of the joined curve against the check and the exact curve.
-pub mod OrderLaws
-pub mod RepeatLaws
-pub mod PassesLaws
-pub mod ThirdLaws
-pub mod HermiteLaws
-pub mod JoinedLaws
+mod OrderLaws
+mod RepeatLaws
+mod PassesLaws
+mod ThirdLaws
+mod HermiteLaws
+mod JoinedLaws
+pub mod EitherLaws
 mod Controls

@@ -1,15 +1,12 @@
 -- The joined curve passes the check: `joined-passes`; so it has the facts of a checked curve: `joined-checked`.
 use mathlib.Core.Bool.{true}
 use mathlib.Core.List.{List}
-use mathlib.Core.Path.{_≡_, refl, sym, ap, _∙_}
+use mathlib.Core.Path.{_≡_, sym, ap, _∙_}
 use Prim.Native.Nat.{ℕ, zero, suc, _+_, _-_, _*_, _≤_, _<_}
-use native.Mathlib.Nat.{lt-trans}
-use native.Mathlib.Decide.{decLe}
+use native.Mathlib.Nat.{lt-trans, mul-le-mul}
 use native.Mathlib.Omega.{arith}
 use lib.IntN.{ℤ}
 use lib.ListN.{length, getD}
-use Rattle.curve.specs.Lists.{Lists}
-use Rattle.curve.specs.HandingOver.{roomNumber}
 use Rattle.grid.specs.Rows.{firstKnot, lastKnot, knotOrderOk}
 use Rattle.grid.specs.Check.{Passes}
 use Rattle.checked.specs.Checked.{Checked}
@@ -18,12 +15,13 @@ use Rattle.checked.proofs.GridLaws.{grid-each}
 use Rattle.checked.proofs.CheckedLaws.{passes-of-checked}
 use Rattle.spline_pieces.specs.Pieces.{pieces}
 use Rattle.spline_pieces.specs.Standing.{Rising}
-use Rattle.joined_curve.specs.Curve.{innerThrice, joinedKnots, joinedPoints}
-use Rattle.joined_curve.proofs.CurveLaws.{points-length, knots-length}
+use Rattle.joined_curve.specs.Curve.{EitherNumber, joinedPoints}
+use Rattle.joined_curve.specs.Sentences.{KnotsOf}
+use Rattle.joined_curve.proofs.CurveLaws.{points-length}
 use Rattle.joining.specs.SplinePoints.{SplinePoints}
-use Rattle.joining.specs.Answer.{joinedLists, joinNumber}
-use Rattle.joining.proofs.StandingLaws.{Joinable, joinable-of}
-use Rattle.joined_curve.proofs.KnotLaws.{knot-at, knot-first, knot-last}
+use Rattle.joining.specs.Answer.{joinedLists}
+use Rattle.joining.proofs.StandingLaws.{Joinable}
+use Rattle.joined_curve.proofs.KnotLaws.{joined-knots}
 use Rattle.joined_curve.proofs.SentenceLaws.{joined-on-grid}
 use Rattle.joining_exact.proofs.OrderLaws.{knots-rise}
 use Rattle.joining_exact.proofs.RepeatLaws.{repeats-outer, repeats-inner}
@@ -33,84 +31,72 @@ first-below : (ss : List ℕ) → Rising ss → (k : ℕ) → suc k < length ss 
 first-below ss rising zero h = rising .rises 0 h
 first-below ss rising (suc k) h = lt-trans (first-below ss rising k (omega arith)) (rising .rises (suc k) h)
 
-module _ (ss : List ℕ) (ps ds : List ℤ) (rising : Rising ss) where
-  abbrev ts : List ℕ
-  ts = joinedKnots innerThrice (pieces ss ps ds)
+module _ (inner : ℕ) (ss ts : List ℕ) (rising : Rising ss) (k : KnotsOf inner ss ts) where
+  starts : (a : ℕ) → a ≤ 3 → getD ts a 0 ≡ firstKnot ts
+  starts a h = k .first a (omega arith) ∙ sym (k .first 0 (omega arith))
 
-  starts : (a : ℕ) → a ≤ 3 → getD ts a 0 ≡ getD ts 0 0
-  starts zero h = refl
-  starts (suc r) h =
-      let here : suc r ≡ 3 * 0 + 1 + r = omega arith in
-      ap (λ j. getD ts j 0) here
-      ∙ knot-at ss ps ds (rising .least) 0 r (omega (arith, rising .least)) (omega arith)
-      ∙ sym (knot-first ss ps ds (rising .least))
-
-  ends : (a : ℕ) → 3 * length ss ≤ a + 2 → a ≤ 3 * length ss + 1 → getD ts a 0 ≡ getD ss (length ss - 1) 0
-  ends a from to = by (decLe a (3 * length ss))
-    where
-      by : Dec (a ≤ 3 * length ss) → getD ts a 0 ≡ getD ss (length ss - 1) 0
-      by (yes h) =
-          let here : a ≡ 3 * (length ss - 1) + 1 + (a - (3 * (length ss - 1) + 1)) = omega (arith, rising .least) in
-          ap (λ j. getD ts j 0) here
-          ∙ knot-at ss ps ds (rising .least) (length ss - 1) (a - (3 * (length ss - 1) + 1)) (omega (arith, rising .least)) (omega (arith, rising .least))
-      by (no h) =
-          let here : a ≡ 3 * length ss + 1 = omega arith in
-          ap (λ j. getD ts j 0) here ∙ knot-last ss ps ds (rising .least)
+  ends : (a : ℕ) → inner * (length ss - 2) + 4 ≤ a → a < length ts → getD ts a 0 ≡ getD ss (length ss - 1) 0
+  ends a from to =
+      let r = a - (inner * (length ss - 2) + 4) in
+      let here : a ≡ inner * (length ss - 2) + 4 + r = omega arith in
+      ap (λ j. getD ts j 0) here ∙ k .last r (omega (arith, k .count))
 
   last-is : lastKnot ts ≡ getD ss (length ss - 1) 0
-  last-is = ends (length ts - 1) (omega (arith, knots-length ss ps ds (rising .least))) (omega (arith, knots-length ss ps ds (rising .least)))
+  last-is = ends (length ts - 1) (omega (arith, k .count)) (omega (arith, k .count))
 
-  first-is : firstKnot ts ≡ getD ss 0 0
-  first-is = knot-first ss ps ds (rising .least)
-
-  domain-is : getD ts 3 0 < getD ts (length (joinedPoints innerThrice (pieces ss ps ds))) 0
+  domain-is : getD ts 3 0 < getD ts (inner * (length ss - 2) + 4) 0
   domain-is =
-      let low = starts 3 (omega arith) ∙ first-is in
-      let high = ends (length (joinedPoints innerThrice (pieces ss ps ds))) (omega (arith, points-length ss ps ds (rising .least))) (omega (arith, points-length ss ps ds (rising .least))) in
       let end : length ss - 1 ≡ suc (length ss - 2) = omega (arith, rising .least) in
-      rw (low, high, end) (first-below ss rising (length ss - 2) (omega (arith, rising .least)))
+      rw (k .first 3 (omega arith), ends (inner * (length ss - 2) + 4) (omega arith) (omega (arith, k .count)), end) (first-below ss rising (length ss - 2) (omega (arith, rising .least)))
 
-module _ (s : SplinePoints) (lent : Lists) (accepted : joinNumber innerThrice s lent ≡ 0) where
-  pub joined-joinable : Joinable s
-  joined-joinable = joinable-of s (roomNumber (joinedLists innerThrice s) lent) accepted
+module _ (inner : ℕ) (either : EitherNumber inner) (s : SplinePoints) (known : Joinable s) where
+  abbrev ss : List ℕ
+  ss = s .params
 
-  pub joined-rising : Rising (s .params)
-  joined-rising = joined-joinable .standing .x-axis .rising
+  rising : Rising ss
+  rising = known .standing .x-axis .rising
 
-  ordered : knotOrderOk (joinedLists innerThrice s .knots) ≡ true
-  ordered = knots-rise (s .params) joined-rising (joined-joinable .standing .largest) (s .xs) (s .dxs)
+  knots : KnotsOf inner ss (joinedLists inner s .knots)
+  knots = joined-knots inner ss (s .xs) (s .dxs) (rising .least)
 
-  pub joined-checked : Checked 3 (joinedLists innerThrice s .knots) (joinedLists innerThrice s .xs) (joinedLists innerThrice s .ys)
+  ordered : knotOrderOk (joinedLists inner s .knots) ≡ true
+  ordered = knots-rise inner ss rising (known .standing .largest) (s .xs) (s .dxs) (omega (arith, either .0))
+
+  many : (ps ds : List ℤ) → length (joinedPoints inner (pieces ss ps ds)) ≡ inner * (length ss - 2) + 4
+  many ps ds = points-length inner (either .0) ss ps ds (rising .least)
+
+  few : inner * (length ss - 2) ≤ 3 * 340
+  few = mul-le-mul {m₂ = 340} (either .1) (omega (arith, rising .most))
+
+  pub joined-checked : Checked 3 (joinedLists inner s .knots) (joinedLists inner s .xs) (joinedLists inner s .ys)
   unfolding knotOrderOk
   joined-checked =
-      let ss = s .params in
       let xs = s .xs in
       let dxs = s .dxs in
-      let some = joined-rising .least in
-      let us = points-length ss xs dxs some in
-      let vs = points-length ss (s .ys) (s .dys) some in
-      let ks = knots-length ss xs dxs some in
-      let grid = joined-joinable .on-grid in
-      let pieces-on-grid = joined-joinable .pieces-on-grid in
+      let us = many xs dxs in
+      let vs = many (s .ys) (s .dys) in
+      let ts = joinedLists inner s .knots in
+      let some = rising .least in
       record {
         sizes = record {
           degree-least = omega arith;
           degree-most = omega arith;
           as-many = vs ∙ sym us;
-          enough = omega (arith, us, some);
-          most = omega (arith, us, joined-rising .most);
-          knots = omega (arith, us, ks, some);
+          enough = omega (arith, us);
+          most = omega (arith, us, few);
+          knots = omega (arith, us, knots .count);
         };
-        rising = order-judged (joinedLists innerThrice s .knots) .passing ordered .0;
-        largest = order-judged (joinedLists innerThrice s .knots) .passing ordered .1;
-        firsts = starts ss xs dxs joined-rising;
-        lasts = λ a from to. ends ss xs dxs joined-rising a (omega (arith, us)) (omega (arith, ks)) ∙ sym (last-is ss xs dxs joined-rising);
-        domain = domain-is ss xs dxs joined-rising;
-        inner = λ v first last. repeats-inner ss joined-rising v xs dxs (λ e. first (e ∙ sym (first-is ss xs dxs joined-rising))) (λ e. last (e ∙ sym (last-is ss xs dxs joined-rising)));
-        outer = λ v. repeats-outer ss joined-rising v xs dxs;
-        gridX = grid-each (joinedLists innerThrice s .xs) (sym (joined-on-grid ss xs dxs (grid .0) some) ∙ pieces-on-grid .0);
-        gridY = grid-each (joinedLists innerThrice s .ys) (sym (joined-on-grid ss (s .ys) (s .dys) (grid .1) some) ∙ pieces-on-grid .1);
+        rising = order-judged ts .passing ordered .0;
+        largest = order-judged ts .passing ordered .1;
+        firsts = starts inner ss ts rising knots;
+        lasts = λ a from to. ends inner ss ts rising knots a (omega (arith, us)) to ∙ sym (last-is inner ss ts rising knots);
+        domain = rw us (domain-is inner ss ts rising knots);
+        inner = λ v first last.
+            omega (arith, either .1, repeats-inner inner ss rising xs dxs v (λ e. first (e ∙ sym (knots .first 0 (omega arith)))) (λ e. last (e ∙ sym (last-is inner ss ts rising knots))));
+        outer = λ v. repeats-outer inner ss rising xs dxs v (omega (arith, either .1));
+        gridX = grid-each (joinedLists inner s .xs) (sym (joined-on-grid inner ss xs dxs (known .on-grid .0) some) ∙ known .pieces-on-grid .0);
+        gridY = grid-each (joinedLists inner s .ys) (sym (joined-on-grid inner ss (s .ys) (s .dys) (known .on-grid .1) some) ∙ known .pieces-on-grid .1);
       }
 
-  pub joined-passes : Passes 3 (joinedLists innerThrice s .knots) (joinedLists innerThrice s .xs) (joinedLists innerThrice s .ys)
-  joined-passes = passes-of-checked 3 (joinedLists innerThrice s .knots) (joinedLists innerThrice s .xs) (joinedLists innerThrice s .ys) joined-checked
+  pub joined-passes : Passes 3 (joinedLists inner s .knots) (joinedLists inner s .xs) (joinedLists inner s .ys)
+  joined-passes = passes-of-checked 3 (joinedLists inner s .knots) (joinedLists inner s .xs) (joinedLists inner s .ys) joined-checked

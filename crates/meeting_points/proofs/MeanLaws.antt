@@ -13,34 +13,28 @@ use Rattle.spline_pieces.specs.Pieces.{third, pieceOf, pieceAt, piecesFrom, pie
 use Rattle.spline_pieces.specs.Standing.{Rising}
 use Rattle.spline_pieces.proofs.SentenceLaws.{whole-judged}
 use Rattle.joined_curve.specs.Curve.{innerTwice, knotsAfter, pointsAfter}
+use Rattle.joined_curve.proofs.CurveLaws.{knotsFrom, pointsFrom}
 use Rattle.meeting_points.proofs.ListLaws.{entry-behind}
 use Rattle.meeting_points.proofs.QuotientLaws.{meeting-mean}
 use Rattle.meeting_points.proofs.AxisLaws.{Twice}
 
--- the knots and the points after the start of piece i, with `count` pieces behind it
-abbrev pub knotsBehind : ℕ → List ℕ → List ℤ → List ℤ → ℕ → ℕ → List ℕ
-knotsBehind inner ss ps ds i count = knotsAfter inner (pieceAt ss ps ds i) (piecesFrom ss ps ds (suc i) count)
-
-abbrev pub pointsBehind : ℕ → List ℕ → List ℤ → List ℤ → ℕ → ℕ → List ℤ
-pointsBehind inner ss ps ds i count = pointsAfter inner (pieceAt ss ps ds i) (piecesFrom ss ps ds (suc i) count)
-
 module _ (ss : List ℕ) (ps ds : List ℤ) where
   -- the first knot is the piece's end, the first point the one that leaves its start
-  pub knotsBehind-first : (i count : ℕ) → getD (knotsBehind innerTwice ss ps ds i count) 0 0 ≡ getD ss (suc i) 0
+  pub knotsFrom-first : (i count : ℕ) → getD (knotsFrom innerTwice ss ps ds i count) 0 0 ≡ getD ss (suc i) 0
   unfolding knotsAfter piecesFrom pieceAt pieceOf
-  knotsBehind-first i zero = refl
-  knotsBehind-first i (suc count) = refl
+  knotsFrom-first i zero = refl
+  knotsFrom-first i (suc count) = refl
 
-  pointsBehind-first : (i count : ℕ)
-      → getD (pointsBehind innerTwice ss ps ds i count) 0 (pos 0) ≡ getD ps i (pos 0) +ℤ third (getD ss (suc i) 0 - getD ss i 0) (getD ds i (pos 0))
+  pointsFrom-first : (i count : ℕ)
+      → getD (pointsFrom innerTwice ss ps ds i count) 0 (pos 0) ≡ getD ps i (pos 0) +ℤ third (getD ss (suc i) 0 - getD ss i 0) (getD ds i (pos 0))
   unfolding pointsAfter piecesFrom pieceAt pieceOf
-  pointsBehind-first i zero = refl
-  pointsBehind-first i (suc count) = refl
+  pointsFrom-first i zero = refl
+  pointsFrom-first i (suc count) = refl
 
-  pub pointsBehind-length : (i count : ℕ) → length (pointsBehind innerTwice ss ps ds i count) ≡ 2 * count + 3
+  pub pointsFrom-length : (i count : ℕ) → length (pointsFrom innerTwice ss ps ds i count) ≡ 2 * count + 3
   unfolding pointsAfter piecesFrom
-  pointsBehind-length i zero = refl
-  pointsBehind-length i (suc count) = omega (arith, pointsBehind-length (suc i) count)
+  pointsFrom-length i zero = refl
+  pointsFrom-length i (suc count) = omega (arith, pointsFrom-length (suc i) count)
 
 -- ks are the knots before the last one of piece i's start, ls those behind its end; k is the place of the mean
 module _ (ss : List ℕ) (rising : Rising ss) (i count : ℕ) (inside : i + suc (suc count) < length ss)
@@ -74,11 +68,11 @@ module _ (ss : List ℕ) (rising : Rising ss) (i count : ℕ) (inside : i + suc 
 
   -- front are the points before piece i's start
   pub end-mean : (ps ds front : List ℤ) → allWhole (pieces ss ps ds) ≡ true → length front ≡ 3 * i
-      → Quotient 3 ts (front ++ (getD ps i (pos 0) ∷ pointsBehind innerTwice ss ps ds i (suc count))) v k (getD ps (suc i) (pos 0))
+      → Quotient 3 ts (front ++ (getD ps i (pos 0) ∷ pointsFrom innerTwice ss ps ds i (suc count))) v k (getD ps (suc i) (pos 0))
   unfolding pointsAfter piecesFrom pieceAt pieceOf
   end-mean ps ds front whole few =
       let thirds = whole-judged ss ps ds .passing whole in
-      let us = getD ps i (pos 0) ∷ pointsBehind innerTwice ss ps ds i (suc count) in
+      let us = getD ps i (pos 0) ∷ pointsFrom innerTwice ss ps ds i (suc count) in
       let place : k - 1 ≡ 3 * i + 2 = omega arith in
       rw (
         high-is,
@@ -86,7 +80,7 @@ module _ (ss : List ℕ) (rising : Rising ss) (i count : ℕ) (inside : i + suc 
         place,
         entry-behind (pos 0) front us (3 * i) 3 few,
         entry-behind (pos 0) front us (3 * i) 2 few,
-        pointsBehind-first ss ps ds (suc i) count,
+        pointsFrom-first ss ps ds (suc i) count,
       )
       (meeting-mean low v (getD ss (suc (suc i)) 0) (getD ps (suc i) (pos 0)) (getD ds (suc i) (pos 0))
       (le-of-lt (rising .rises i (omega arith))) (le-of-lt (rising .rises (suc i) (omega arith)))

@@ -17,9 +17,10 @@ use Rattle.insertion.proofs.ResultLaws.{inserted-passes}
 use Rattle.spline_pieces.specs.Pieces.{pieceOf, pieceAt, piecesFrom, pieces, allWhole}
 use Rattle.spline_pieces.specs.Standing.{Rising}
 use Rattle.joined_curve.specs.Curve.{innerTwice, innerThrice, knotsAfter, joinedKnots, pointsAfter, joinedPoints}
+use Rattle.joined_curve.proofs.CurveLaws.{knotsFrom, pointsFrom}
 use Rattle.meeting_points.specs.Inserting.{innerParameters, InsertsEach}
 use Rattle.meeting_points.proofs.StepLaws.{twice-inserts}
-use Rattle.meeting_points.proofs.MeanLaws.{knotsBehind, pointsBehind, knotsBehind-first, pointsBehind-length, end-twice, end-mean}
+use Rattle.meeting_points.proofs.MeanLaws.{knotsFrom-first, pointsFrom-length, end-twice, end-mean}
 
 -- a cubic that passes the check
 abbrev CubicPasses : Lists → Type 0
@@ -36,9 +37,9 @@ module _ (ss : List ℕ) (xs dxs ys dys : List ℤ) where
   -- the curve with these fronts and what follows from piece i on, with `count` pieces behind it
   abbrev curveOn : ℕ → ℕ → ℕ → List ℕ → List ℤ → List ℤ → Lists
   curveOn inner i count ks fx fy =
-      lists (ks ++ (getD ss i 0 ∷ knotsBehind inner ss xs dxs i count))
-      (fx ++ (getD xs i (pos 0) ∷ pointsBehind inner ss xs dxs i count))
-      (fy ++ (getD ys i (pos 0) ∷ pointsBehind inner ss ys dys i count))
+      lists (ks ++ (getD ss i 0 ∷ knotsFrom inner ss xs dxs i count))
+      (fx ++ (getD xs i (pos 0) ∷ pointsFrom inner ss xs dxs i count))
+      (fy ++ (getD ys i (pos 0) ∷ pointsFrom inner ss ys dys i count))
 
   -- the first i meeting points are in, and the curve passes the check
   record Begun (i count : ℕ) (ks : List ℕ) (fx fy : List ℤ) : Type 0 where
@@ -57,7 +58,7 @@ module _ (ss : List ℕ) (xs dxs ys dys : List ℤ) where
       next inner = curveOn inner (suc i) count (longerKnots ss i ks) (longerPoints ss xs dxs i fx) (longerPoints ss ys dys i fy)
 
       points-length : length (before .xs) ≡ 3 * i + (2 * suc count + 4)
-      points-length = length-append fx _ ∙ omega (arith, pointsBehind-length ss xs dxs i (suc count), b .many-x)
+      points-length = length-append fx _ ∙ omega (arith, pointsFrom-length ss xs dxs i (suc count), b .many-x)
 
       -- with inner knots three times nothing is to be inserted where piece i ends
       thrice-next : curveOn innerThrice i (suc count) ks fx fy ≡ next innerThrice
@@ -69,8 +70,8 @@ module _ (ss : List ℕ) (xs dxs ys dys : List ℤ) where
           × (inserted 3 before (getD ss (suc i) 0) ≡ next innerTwice)
       unfolding knotsAfter pointsAfter piecesFrom pieceAt pieceOf
       twice-next =
-          let ls = knotsBehind innerTwice ss xs dxs (suc i) count in
-          let first = knotsBehind-first ss xs dxs (suc i) count in
+          let ls = knotsFrom innerTwice ss xs dxs (suc i) count in
+          let first = knotsFrom-first ss xs dxs (suc i) count in
           let inside = b .inside in
           twice-inserts before (getD ss (suc i) 0) (3 * i + 3) (getD xs (suc i) (pos 0)) (getD ys (suc i) (pos 0)) (b .passes)
           (end-twice ss rising i count inside ks ls (b .many) first)
@@ -78,8 +79,8 @@ module _ (ss : List ℕ) (xs dxs ys dys : List ℤ) where
           (end-mean ss rising i count inside ks ls (b .many) first xs dxs fx whole-x (b .many-x))
           (end-mean ss rising i count inside ks ls (b .many) first ys dys fy whole-y (b .many-y))
           (longerKnots ss i ks) ls
-          (longerPoints ss xs dxs i fx) (pointsBehind innerTwice ss xs dxs (suc i) count)
-          (longerPoints ss ys dys i fy) (pointsBehind innerTwice ss ys dys (suc i) count)
+          (longerPoints ss xs dxs i fx) (pointsFrom innerTwice ss xs dxs (suc i) count)
+          (longerPoints ss ys dys i fy) (pointsFrom innerTwice ss ys dys (suc i) count)
           (simp append-assoc) (simp append-assoc) (simp append-assoc)
           (length-append ks _ ∙ omega (arith, b .many)) (length-append fx _ ∙ omega (arith, b .many-x)) (length-append fy _ ∙ omega (arith, b .many-y))
 

@@ -46,7 +46,7 @@ use Rattle.job_text.specs.Program.{PartsAreTheText, WrittenIsText, BrokenIsOneL
 use Rattle.clear_is_clear.specs.Clear.{ClearIsClear, EveryClampTold, ElseListed}
 use Rattle.worked.specs.Case.{AllHold}
 use Rattle.worked.specs.Worked.{cases}
-use Rattle.joining_exact.specs.JoinedCurve.{JoinPasses, JoinIsHermite, JoinMeetsPoints, JoinHasEntries}
+use Rattle.joining_exact.specs.JoinedCurve.{JoinPasses, JoinIsHermite, JoinMeetsPoints, JoinHasEntries, MeetingPointsInserted}
 use Rattle.knots_exact.specs.SameCurve.{InsertKeepsCurve, RemoveKeepsCurve, CompactKeepsCurve, EditingPasses}
 
 -- "Numbers of refusal": the check answers n exactly when row n applies and no lower row does, and 0 exactly when no row does
@@ -133,7 +133,7 @@ CompactionDetermined =
 abbrev pub EditedCurvePasses : Type 0
 EditedCurvePasses = EditingPasses
 
--- "Joining spline points": a joined curve passes the check
+-- "Joining spline points": a joined curve passes the check, whether an inner parameter stands twice in it or three times; so with all that follows
 abbrev pub JoinedCurvePasses : Type 0
 JoinedCurvePasses = JoinPasses
 
@@ -141,9 +141,14 @@ JoinedCurvePasses = JoinPasses
 abbrev pub JoinedCurveIsHermite : Type 0
 JoinedCurveIsHermite = JoinIsHermite
 
--- "Joining spline points": it passes through each spline point at its parameter, and has three points a piece and one more
+-- "Joining spline points": it passes through each spline point at its parameter, and has its knots and points entry by entry: of each piece two inner
+-- points, and the meeting points where inner parameters stand three times
 abbrev pub JoinedCurveMeetsPoints : Type 0
 JoinedCurveMeetsPoints = JoinMeetsPoints × JoinHasEntries
+
+-- "Joining spline points": where they stand twice only the meeting points are gone: inserting each inner parameter once more gives the curve that has them
+abbrev pub MeetingPointsDropOut : Type 0
+MeetingPointsDropOut = MeetingPointsInserted
 
 -- "The record on disk": reading what was written gives the curve back, writing what was read gives the bytes back, bytes that read to one
 -- curve are equal, and a record has at most 10,261 bytes

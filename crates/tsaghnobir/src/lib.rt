@@ -19,3 +19,4 @@ pub use questions::tsb_check;
 pub use questions::tsb_point;
 pub use questions::tsb_spans;
 pub use spline_points::tsb_join;
+pub use spline_points::tsb_join_through_points;

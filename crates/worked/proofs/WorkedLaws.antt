@@ -28,4 +28,4 @@ use Rattle.worked.specs.Worked.{cases}
 pub worked-hold : AllHold cases
 unfolding trailingZeros span climb size odd units round sum add mul div ofInt enough checkedThen degreeOk pointCountOk knotCountOk risesFrom knotOrderOk allAre endsOk occurrences repeatsMost repeatsWithin repeatsOk onGrid allOnGrid rangeOk axisOk rectangleOk spanOf inDomain strictlyInside entryOf parameterNumber someAtMost someAtLeast meetsOnAxis upFrom keep spanCount boxMeets spansMet lowKnots highKnots numberWithPlaces recordBytes writeNumber insertionNumber insertableThen valueOk placeOk wholeOk wholePoints wholeFrom divides weight weightedSum insertionSpan knotsUpTo insertedKnots insertedPoints insertedPoint entries joinableThen splinePointsOk splineCountOk countsAgree risesStrictlyFrom thirdWhole third pieceOf pieceAt piecesFrom pieces everyPiece pieceOnGrid joinedKnots knotsAfter joinedPoints pointsAfter
 worked-hold =
-    (refl, (refl, (refl, (refl, (refl, (refl, (refl, ((refl, refl), ((refl, refl), ((refl, refl), ((refl, refl), ((refl, refl), ((refl, refl), ((refl, refl), ((refl, refl), ((refl, refl), (record { answers = refl; hands = refl }, (record { answers = refl; hands = refl }, (record { answers = refl; hands = refl }, (record { answers = refl; hands = refl }, (record { answers = refl; hands = refl }, (record { answers = refl; hands = refl }, (b-keeps-its-knot, (wider-b-loses-its-knot, (double-knot-goes, (two-values-go, (one-pass-alone, (record { answers = refl; hands = refl }, (record { answers = refl; hands = refl }, tt)))))))))))))))))))))))))))))
+    (refl, (refl, (refl, (refl, (refl, (refl, (refl, ((refl, refl), ((refl, refl), ((refl, refl), ((refl, refl), ((refl, refl), ((refl, refl), ((refl, refl), ((refl, refl), ((refl, refl), (record { answers = refl; hands = refl }, (record { answers = refl; hands = refl }, (record { answers = refl; hands = refl }, (record { answers = refl; hands = refl }, (record { answers = refl; hands = refl }, (record { answers = refl; hands = refl }, (b-keeps-its-knot, (wider-b-loses-its-knot, (double-knot-goes, (two-values-go, (one-pass-alone, (record { answers = refl; hands = refl }, (record { answers = refl; hands = refl }, (record { answers = refl; hands = refl }, (record { answers = refl; hands = refl }, (record { answers = refl; hands = refl }, (record { answers = refl; hands = refl }, (record { answers = refl; hands = refl }, tt))))))))))))))))))))))))))))))))))

@@ -28,7 +28,6 @@ use Rattle.insert_knot.specs.Answer.{InsertOutcome}
 use Rattle.insert_knot.specs.declared.InsertAnswer.the-variants.{Inserted, Refused as InsertRefused}
 use Rattle.remove_knot.specs.Outcome.{RemovalOutcome}
 use Rattle.remove_knot.specs.declared.RemoveAnswer.the-variants.{Removed, Refused as RemoveRefused}
-use Rattle.joined_curve.specs.Curve.{innerThrice}
 use Rattle.joining.specs.SplinePoints.{SplinePoints}
 use Rattle.joining.specs.Answer.{JoinOutcome}
 use Rattle.joining.specs.declared.JoinAnswer.the-variants.{Joined, Refused as JoinRefused}
@@ -68,9 +67,9 @@ pub data Case : Type 0 where
   -- a curve with a knot removed is another curve; or that is refused
   removed : ℕ → Lists → ℕ → Lists → Case
   removedNot : ℕ → Lists → ℕ → ℕ → Case
-  -- spline points joined are a curve of degree 3; or that is refused
-  joined : SplinePoints → Lists → Case
-  joinedNot : SplinePoints → ℕ → Case
+  -- spline points joined, with so many knots where pieces meet, are a curve of degree 3; or that is refused
+  joined : ℕ → SplinePoints → Lists → Case
+  joinedNot : ℕ → SplinePoints → ℕ → Case
 
 -- zeros in the places of a curve's lists
 abbrev pub placesOf : Lists → Lists
@@ -101,8 +100,8 @@ Holds (inserted m c v d) = InsertOutcome m c v (placesOf d) (Inserted (length (d
 Holds (insertedNot m c v n) = InsertOutcome m c v noPlaces (InsertRefused n) noPlaces
 Holds (removed m c v d) = RemovalOutcome m c v (placesOf d) (Removed (length (d .xs))) d
 Holds (removedNot m c v n) = RemovalOutcome m c v noPlaces (RemoveRefused n) noPlaces
-Holds (joined s d) = JoinOutcome innerThrice s (placesOf d) (Joined (length (d .xs))) d
-Holds (joinedNot s n) = JoinOutcome innerThrice s noPlaces (JoinRefused n) noPlaces
+Holds (joined inner s d) = JoinOutcome inner s (placesOf d) (Joined (length (d .xs))) d
+Holds (joinedNot inner s n) = JoinOutcome inner s noPlaces (JoinRefused n) noPlaces
 
 -- each of a list holds
 abbrev pub AllHold : List Case → Type 0

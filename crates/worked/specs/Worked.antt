@@ -3,6 +3,7 @@ use mathlib.Core.List.{List, [], _∷_}
 use Prim.Native.Nat.{ℕ}
 use lib.IntN.{pos, negsuc}
 use Rattle.curve.specs.Lists.{Lists, lists}
+use Rattle.joined_curve.specs.Curve.{innerTwice, innerThrice}
 use Rattle.joining.specs.SplinePoints.{SplinePoints, splinePoints}
 use Rattle.point_at.specs.declared.PointAnswer.the-variants.{Refused}
 use Rattle.carrying.specs.declared.Axis.the-variants.{X, Y}
@@ -71,6 +72,24 @@ clamp lowX highX lowY highY =
 abbrev pub arch : ℕ → SplinePoints
 arch last = splinePoints (0 ∷ last ∷ []) (whole (0 ∷ 12 ∷ [])) (whole (0 ∷ 0 ∷ [])) (whole (1 ∷ 1 ∷ [])) (pos 1 ∷ negsuc 0 ∷ [])
 
+-- what it joins to, whatever the number: two spline points have no inner parameter
+abbrev pub archJoined : Lists
+archJoined = curve (0 ∷ 0 ∷ 0 ∷ 0 ∷ 12 ∷ 12 ∷ 12 ∷ 12 ∷ []) (0 ∷ 4 ∷ 8 ∷ 12 ∷ []) (0 ∷ 4 ∷ 4 ∷ 0 ∷ [])
+
+-- spline points (0,0), (6,-6), (12,0) with tangents (1,-2), (1,0), (1,5), at the parameters 0, 3, 9; joined without (6,-6), and with it
+abbrev pub dip : SplinePoints
+dip =
+    splinePoints (0 ∷ 3 ∷ 9 ∷ []) (whole (0 ∷ 6 ∷ 12 ∷ [])) (pos 0 ∷ negsuc 5 ∷ pos 0 ∷ []) (whole (1 ∷ 1 ∷ 1 ∷ [])) (negsuc 1 ∷ pos 0 ∷ pos 5 ∷ [])
+
+abbrev pub dipJoined : Lists
+dipJoined =
+    lists (0 ∷ 0 ∷ 0 ∷ 0 ∷ 3 ∷ 3 ∷ 9 ∷ 9 ∷ 9 ∷ 9 ∷ []) (whole (0 ∷ 1 ∷ 5 ∷ 8 ∷ 10 ∷ 12 ∷ [])) (pos 0 ∷ negsuc 1 ∷ negsuc 5 ∷ negsuc 5 ∷ negsuc 9 ∷ pos 0 ∷ [])
+
+abbrev pub dipThroughPoints : Lists
+dipThroughPoints =
+    lists (0 ∷ 0 ∷ 0 ∷ 0 ∷ 3 ∷ 3 ∷ 3 ∷ 9 ∷ 9 ∷ 9 ∷ 9 ∷ []) (whole (0 ∷ 1 ∷ 5 ∷ 6 ∷ 8 ∷ 10 ∷ 12 ∷ []))
+    (pos 0 ∷ negsuc 1 ∷ negsuc 5 ∷ negsuc 5 ∷ negsuc 5 ∷ negsuc 9 ∷ pos 0 ∷ [])
+
 abbrev pub cases : List Case
 cases =
     -- A at 0 is (0, 0)
@@ -122,8 +141,14 @@ cases =
     ∷ compacted 2 curveC-doubled 2 curveC
     ∷ compacted 2 curveD-refined 2 curveD
     ∷ compacted 2 curveE 1 curveE-passed
-    -- spline points (0,0), (12,0), tangents (1,1), (1,-1), parameters 0, 12: (0,0) (4,4) (8,4) (12,0)
-    ∷ joined (arch 12) (curve (0 ∷ 0 ∷ 0 ∷ 0 ∷ 12 ∷ 12 ∷ 12 ∷ 12 ∷ []) (0 ∷ 4 ∷ 8 ∷ 12 ∷ []) (0 ∷ 4 ∷ 4 ∷ 0 ∷ []))
+    -- spline points (0,0), (12,0), tangents (1,1), (1,-1), parameters 0, 12: (0,0) (4,4) (8,4) (12,0), by default and through the points
+    ∷ joined innerTwice (arch 12) archJoined
+    ∷ joined innerThrice (arch 12) archJoined
     -- with parameters 0, 4: 11
-    ∷ joinedNot (arch 4) 11
+    ∷ joinedNot innerTwice (arch 4) 11
+    ∷ joinedNot innerThrice (arch 4) 11
+    -- three spline points: the meeting point drops out by default, and inserting its parameter once more gives it back
+    ∷ joined innerTwice dip dipJoined
+    ∷ joined innerThrice dip dipThroughPoints
+    ∷ inserted 3 dipJoined 3 dipThroughPoints
     ∷ []

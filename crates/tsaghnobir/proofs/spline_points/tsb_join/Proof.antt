@@ -1,61 +1,30 @@
--- `tsaghnobir::tsb_join` meets its contract: each arm knows the number, and the first the count.
-use mathlib.Core.Path.{sym}
-use Rattle.tsaghnobir.proofs.ArmLaws.{done-arm, refused-arm, placed-refused}
-use Rattle.tsaghnobir.proofs.Answers.{join-variants}
+-- What the call answers, told as a number and a count.
+use borrow.Author.Needs.{needs}
 use Rattle.tsaghnobir.proofs.spline_points.tsb_join.Statement.{statement}
 use Rattle.tsaghnobir.proofs.spline_points.tsb_join.Tie as tie
 
-join-through-points-requires : tie.Need-join-through-points-requires
-join-through-points-requires c κs = tt
+join-requires : tie.Need-join-requires
+join-requires c κs = search needs
 
-enum-known-answer : tie.Need-enum-known-answer
-enum-known-answer c = c .match .keys1
-
-enum-known-answer-2 : tie.Need-enum-known-answer-2
-enum-known-answer-2 c = c .match .keys2
+told-requires : tie.Need-told-requires
+told-requires c κs = search needs
 
 same-length : tie.Need-same-length
-same-length c = c .before .before .before .before .before .before .before .join-through-points .kept .1 .1 .1 .1 .1 .0
+same-length c = search needs
 
 same-length-2 : tie.Need-same-length-2
-same-length-2 c = c .before .before .before .before .before .before .before .join-through-points .kept .1 .1 .1 .1 .1 .1 .0
+same-length-2 c = search needs
 
 same-length-3 : tie.Need-same-length-3
-same-length-3 c = c .before .before .before .before .before .before .before .join-through-points .kept .1 .1 .1 .1 .1 .1 .1 .0
+same-length-3 c = search needs
 
 returns : tie.Need-returns
 returns c =
-    let call = c .before .before .before .before .before .before .before .join-through-points in
-    let arm = done-arm join-variants _ _ (call .ensures .answers) (c .before .answer .given .1) in
-    (sym (arm .0), (rw (arm .0) at (call .ensures .hands), arm .1))
-
-same-length-4 : tie.Need-same-length-4
-same-length-4 c = c .before .before .before .before .before .before .before .join-through-points .kept .1 .1 .1 .1 .1 .0
-
-same-length-5 : tie.Need-same-length-5
-same-length-5 c = c .before .before .before .before .before .before .before .join-through-points .kept .1 .1 .1 .1 .1 .1 .0
-
-same-length-6 : tie.Need-same-length-6
-same-length-6 c = c .before .before .before .before .before .before .before .join-through-points .kept .1 .1 .1 .1 .1 .1 .1 .0
-
-returns-2 : tie.Need-returns-2
-returns-2 c =
-    let call = c .before .before .before .before .before .before .before .join-through-points in
-    let arm = refused-arm join-variants _ _ (call .ensures .answers) (c .before .answer2 .given .1) in
-    (sym (arm .0), (rw (arm .0) at (call .ensures .hands), placed-refused _ _ _ (arm .1)))
+    let call = c .before .before .before .before .before .before .join in
+    let told = c .told .ensures _ _ (call .ensures .answers) in
+    (told .0, (rw (told .0) (call .ensures .hands), told .1))
 
 pub tsb-join-spec : {M : Type 1} → statement M
 tsb-join-spec =
     tie.close
-    (tie.spec
-    join-through-points-requires
-    enum-known-answer
-    enum-known-answer-2
-    same-length
-    same-length-2
-    same-length-3
-    returns
-    same-length-4
-    same-length-5
-    same-length-6
-    returns-2)
+    (tie.spec join-requires told-requires same-length same-length-2 same-length-3 returns)
