@@ -2,12 +2,11 @@
 -- is written over what of the curve so far does not stay; after the last piece it is the joined curve.
 use mathlib.Core.List.{List, [], _∷_, _++_, append-assoc, append-nil}
 use mathlib.Core.Path.{_≡_, sym, ap, _∙_}
-use Prim.Native.Nat.{ℕ, zero, suc, _+_, _-_, _*_, _≤_, _<_}
+use Prim.Native.Nat.{ℕ, zero, suc, _+_, _-_, _≤_, _<_}
 use native.Mathlib.Omega.{arith}
 use lib.IntN.{ℤ, pos}
-use lib.ListN.{length, getD, replicate, length-append, length-replicate, replicate-append-replicate}
+use lib.ListN.{length, getD, replicate, length-replicate, replicate-append-replicate}
 use lib.Seq.{sets}
-use Rattle.lent.specs.Lent.{over}
 use Rattle.spline_pieces.specs.Pieces.{Piece, pieceOf, pieceAt, piecesFrom, pieces}
 use Rattle.joined_curve.specs.Curve.{endKnots, EitherNumber, knotsAfter, joinedKnots, pointsAfter, joinedPoints}
 use Rattle.joined_curve.proofs.CurveLaws.{knotsBefore, inPiece, pointsBefore, knots-cut, points-cut, knotsBefore-length, pointsBefore-length}

@@ -1,7 +1,7 @@
 -- The joined knots by index: the first parameter stands at 0 to 3, the one behind piece i from inner·i + 4 on.
 use mathlib.Core.List.{List, _++_}
 use mathlib.Core.Path.{_≡_, sym, ap, _∙_}
-use Prim.Native.Nat.{ℕ, zero, suc, _+_, _-_, _*_, _≤_, _<_}
+use Prim.Native.Nat.{ℕ, suc, _+_, _-_, _*_, _≤_, _<_}
 use native.Mathlib.Omega.{arith}
 use lib.IntN.{ℤ}
 use lib.ListN.{length, getD, replicate, length-replicate, getD-replicate, List·getD-append}

@@ -1,6 +1,6 @@
 -- Closed cases, worked by hand: each row of joining once, in its order, and each limit on both sides (heading "Numbers of refusal").
 use mathlib.Core.Bool.{true, false}
-use mathlib.Core.List.{List, [], _∷_}
+use mathlib.Core.List.{[], _∷_}
 use mathlib.Core.Path.{_≡_, refl}
 use Prim.Native.Nat.{ℕ}
 use lib.IntN.{ℤ, pos, negsuc}
@@ -10,7 +10,7 @@ use Rattle.curve.specs.Lists.{Lists, lists}
 use Rattle.curve.specs.HandingOver.{enough}
 use Rattle.grid.specs.Rows.{onGrid, allOnGrid, rangeOk}
 use Rattle.spline_pieces.specs.Pieces.{pieces, piecesFrom, pieceAt, pieceOf, third, thirdWhole, everyPiece, pieceOnGrid}
-use Rattle.joined_curve.specs.Curve.{innerThrice, knotsAfter, joinedKnots, pointsAfter, joinedPoints}
+use Rattle.joined_curve.specs.Curve.{innerTwice, innerThrice, knotsAfter, joinedKnots, pointsAfter, joinedPoints}
 use Rattle.joining.specs.SplinePoints.{SplinePoints, splinePoints, splineCountOk, countsAgree, risesStrictlyFrom, splinePointsOk}
 use Rattle.joining.specs.Answer.{joinableThen, joinNumber, joinAnswer}
 use Rattle.joining.specs.declared.JoinAnswer.the-variants.{Joined, Refused}
@@ -48,6 +48,28 @@ answers : joinNumber innerThrice (from 12 (pos 0) (pos 1)) (room 4)
     ≡ 0 ∷ 17 ∷ 17 ∷ 0 ∷ 17 ∷ 17 ∷ 7 ∷ 7 ∷ 11 ∷ 18 ∷ 15 ∷ []
 unfolding joinableThen splinePointsOk splineCountOk countsAgree risesStrictlyFrom rangeOk allOnGrid onGrid pieces piecesFrom pieceAt pieceOf third thirdWhole divides everyPiece pieceOnGrid enough joinedKnots knotsAfter joinedPoints pointsAfter
 answers = refl
+
+-- three spline points at 0 3 9, of which the last has this x and these tangents
+abbrev three : ℤ → ℤ → SplinePoints
+three x d = splinePoints (0 ∷ 3 ∷ 9 ∷ []) (pos 0 ∷ pos 6 ∷ x ∷ []) (pos 0 ∷ negsuc 5 ∷ pos 0 ∷ []) (pos 1 ∷ pos 1 ∷ d ∷ []) (negsuc 1 ∷ pos 0 ∷ pos 5 ∷ [])
+
+-- so many places for knots, x and y
+abbrev places : ℕ → ℕ → ℕ → Lists
+places knots xs ys = lists (replicate knots 0) (replicate xs (pos 0)) (replicate ys (pos 0))
+
+-- 15 goes by the result: 10 knots and 6 points where the meeting point drops out, 11 and 7 where it stays; 18 is the same for both
+either-answers : joinNumber innerTwice (three (pos 12) (pos 1)) (places 10 6 6)
+    ∷ joinNumber innerTwice (three (pos 12) (pos 1)) (places 9 6 6)
+    ∷ joinNumber innerTwice (three (pos 12) (pos 1)) (places 10 5 6)
+    ∷ joinNumber innerTwice (three (pos 12) (pos 1)) (places 10 6 5)
+    ∷ joinNumber innerThrice (three (pos 12) (pos 1)) (places 10 6 6)
+    ∷ joinNumber innerThrice (three (pos 12) (pos 1)) (places 11 7 7)
+    ∷ joinNumber innerTwice (three (pos 262143) (negsuc 0)) (places 10 6 6)
+    ∷ joinNumber innerThrice (three (pos 262143) (negsuc 0)) (places 11 7 7)
+    ∷ []
+    ≡ 0 ∷ 15 ∷ 15 ∷ 15 ∷ 15 ∷ 0 ∷ 18 ∷ 18 ∷ []
+unfolding joinableThen splinePointsOk splineCountOk countsAgree risesStrictlyFrom rangeOk allOnGrid onGrid pieces piecesFrom pieceAt pieceOf third thirdWhole divides everyPiece pieceOnGrid enough joinedKnots knotsAfter joinedPoints pointsAfter
+either-answers = refl
 
 -- the answer by cases
 joined-or-refused : joinAnswer 0 4 ∷ joinAnswer 18 4 ∷ [] ≡ Joined 4 ∷ Refused 18 ∷ []

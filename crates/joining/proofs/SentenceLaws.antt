@@ -9,7 +9,6 @@ use lib.Dec.{leb}
 use lib.ListN.{length, getD}
 use borrow.Author.Tests.{leb-false}
 use Rattle.refusal.proofs.ChainLaws.{accepts, judged, answers-first}
-use Rattle.curve.specs.Lists.{Lists}
 use Rattle.grid.specs.Limits.{knotMost, splinePointsLeast, splinePointsMost}
 use Rattle.grid.specs.Rows.{rangeOk}
 use Rattle.checked.specs.Sentences.{RangeWrong}

@@ -2,7 +2,7 @@
 -- With two it is the Hermite cubic since inserting the meeting points keeps the curve and gives the one with three: `meeting-inserted`.
 use mathlib.Core.Bool.{true}
 use mathlib.Core.List.{List}
-use mathlib.Core.Path.{_≡_, refl, sym, ap, subst, _∙_}
+use mathlib.Core.Path.{_≡_, sym, _∙_}
 use Prim.Native.Nat.{ℕ, zero, suc, _+_, _-_, _*_, _≤_, _<_}
 use native.Mathlib.Nat.{le-trans, mul-le-mul-right}
 use native.Mathlib.Decide.{decLe}
@@ -22,7 +22,7 @@ use Rattle.span.specs.Span.{inDomain}
 use Rattle.span.proofs.SentenceLaws.{domain-exactly}
 use Rattle.knots_exact.specs.SameCurve.{SameOnAxis}
 use Rattle.spline_pieces.specs.Standing.{Rising}
-use Rattle.joined_curve.specs.Curve.{innerTwice, innerThrice, EitherNumber}
+use Rattle.joined_curve.specs.Curve.{innerTwice, innerThrice}
 use Rattle.joined_curve.proofs.CurveLaws.{points-length}
 use Rattle.joined_curve.proofs.KnotLaws.{joined-knots}
 use Rattle.joined_curve.proofs.SentenceLaws.{joined-points}
