@@ -31,6 +31,14 @@ pointsBefore inner ss ps ds (suc i) = pointsBefore inner ss ps ds i ++ inPiece i
 abbrev pub pointsFrom : ℕ → List ℕ → List ℤ → List ℤ → ℕ → ℕ → List ℤ
 pointsFrom inner ss ps ds i count = pointsAfter inner (pieceAt ss ps ds i) (piecesFrom ss ps ds (suc i) count)
 
+-- how many there are
+pub knotsBefore-length : (inner : ℕ) (ss : List ℕ) (i : ℕ) → length (knotsBefore inner ss i) ≡ inner * i + 4
+unfolding knotsBefore
+knotsBefore-length inner ss zero = omega (arith, mul-zero inner)
+knotsBefore-length inner ss (suc i) =
+    length-append (knotsBefore inner ss i) (replicate inner (getD ss (suc i) 0))
+    ∙ omega (arith, knotsBefore-length inner ss i, length-replicate inner (getD ss (suc i) 0), mul-suc inner i)
+
 module _ (inner : ℕ) (ss : List ℕ) (ps ds : List ℤ) where
   -- one piece further
   knots-on : (i count : ℕ) → knotsBefore inner ss i ++ knotsFrom inner ss ps ds i (suc count) ≡ knotsBefore inner ss (suc i) ++ knotsFrom inner ss ps ds (suc i) count
@@ -64,20 +72,12 @@ module _ (inner : ℕ) (ss : List ℕ) (ps ds : List ℤ) where
       rw (pieces-are some, all)
   points-cut some (suc i) count e = points-cut some i (suc count) (omega arith) ∙ points-on i count
 
-  -- how many there are
-  pub knotsBefore-length : (i : ℕ) → length (knotsBefore inner ss i) ≡ inner * i + 4
-  unfolding knotsBefore
-  knotsBefore-length zero = omega (arith, mul-zero inner)
-  knotsBefore-length (suc i) =
-      length-append (knotsBefore inner ss i) (replicate inner (getD ss (suc i) 0))
-      ∙ omega (arith, knotsBefore-length i, length-replicate inner (getD ss (suc i) 0), mul-suc inner i)
-
   pub knots-length : 2 ≤ length ss → length (joinedKnots inner (pieces ss ps ds)) ≡ inner * (length ss - 2) + 8
   unfolding knotsAfter piecesFrom
   knots-length some =
       ap length (knots-cut some (length ss - 2) 0 (omega arith))
       ∙ length-append (knotsBefore inner ss (length ss - 2)) (knotsFrom inner ss ps ds (length ss - 2) 0)
-      ∙ omega (arith, knotsBefore-length (length ss - 2))
+      ∙ omega (arith, knotsBefore-length inner ss (length ss - 2))
 
 module _ (inner : ℕ) (least : 2 ≤ inner) (ss : List ℕ) (ps ds : List ℤ) where
   pub pointsBefore-length : (i : ℕ) → length (pointsBefore inner ss ps ds i) ≡ inner * i + 1

@@ -1,7 +1,7 @@
 -- The joined curve of the first pieces, as it stands in the lent lists while it grows: each piece is written as the last one. One piece more
 -- is written over what of the curve so far does not stay; after the last piece it is the joined curve.
 use mathlib.Core.List.{List, [], _∷_, _++_, append-assoc, append-nil}
-use mathlib.Core.Path.{_≡_, sym, ap, _∙_}
+use mathlib.Core.Path.{_≡_, refl, sym, ap, _∙_}
 use Prim.Native.Nat.{ℕ, zero, suc, _+_, _-_, _≤_, _<_}
 use native.Mathlib.Omega.{arith}
 use lib.IntN.{ℤ, pos}
@@ -10,7 +10,7 @@ use lib.Seq.{sets}
 use Rattle.spline_pieces.specs.Pieces.{Piece, pieceOf, pieceAt, piecesFrom, pieces}
 use Rattle.joined_curve.specs.Curve.{endKnots, EitherNumber, knotsAfter, joinedKnots, pointsAfter, joinedPoints}
 use Rattle.joined_curve.proofs.CurveLaws.{knotsBefore, inPiece, pointsBefore, knots-cut, points-cut, knotsBefore-length, pointsBefore-length}
-use Rattle.joined_curve.proofs.PutLaws.{block-put, Grown, grown-room, grown-more}
+use Rattle.joined_curve.proofs.PutLaws.{Grown, grown-more}
 
 -- the knots up to parameter i
 unfoldable pub knotsTo : ℕ → List ℕ → ℕ → List ℕ
@@ -67,12 +67,9 @@ module _ (inner : ℕ) (either : EitherNumber inner) where
     pub knots-grow : {before out now : List ℕ} {at i : ℕ} → KnotsGrown inner ss before out at i → suc i < length ss → now ≡ sets out at (replicate endKnots (getD ss (i + 1) 0))
         → KnotsGrown inner ss before now (at + inner) (i + 1)
     unfolding knotsTo
-    knots-grow {before} {out} {now} {at} {i} g h put =
+    knots-grow {i = i} g h put =
         let next : i + 1 ≡ suc i = omega arith in
-        let block = replicate endKnots (getD ss (suc i) 0) in
-        let count : length (knotsBefore inner ss i) ≡ at = knotsBefore-length inner ss [] [] i ∙ sym (g .place) in
-        grown-more g (replicate endKnots (getD ss (i + 1) 0)) h put
-        (put ∙ rw (next, g .holds, ← count, knots-stay i) (block-put (knotsBefore inner ss i) (lostKnots i) block before (lost-few i) (omega (arith, count, g .place, grown-room g h))))
+        grown-more g (knotsBefore inner ss i) (lostKnots i) (replicate endKnots (getD ss (suc i) 0)) h (rw next at put) (knots-stay i) refl (knotsBefore-length inner ss i) refl (lost-few i)
 
   module _ (ss : List ℕ) (ps ds : List ℤ) where
     -- of the points so far those before the inner points of the next piece stay
@@ -95,12 +92,8 @@ module _ (inner : ℕ) (either : EitherNumber inner) where
     pub points-grow : {before out now : List ℤ} {at i : ℕ} → PointsGrown inner ss ps ds before out at i → suc i < length ss → now ≡ sets out at (threeOf (pieceAt ss ps ds i))
         → PointsGrown inner ss ps ds before now (at + inner) (i + 1)
     unfolding pointsTo
-    points-grow {before} {out} {now} {at} {i} g h put =
-        let next : i + 1 ≡ suc i = omega arith in
-        let block = threeOf (pieceAt ss ps ds i) in
-        let count : length (pointsBefore inner ss ps ds i) ≡ at = pointsBefore-length inner (either .0) ss ps ds i ∙ sym (g .place) in
-        grown-more g block h put
-        (put ∙ rw (next, g .holds, ← count, points-stay i) (block-put (pointsBefore inner ss ps ds i) (lostPoints i) block before (lost-points-few i) (omega (arith, count, g .place, grown-room g h))))
+    points-grow {i = i} g h put =
+        grown-more g (pointsBefore inner ss ps ds i) (lostPoints i) (threeOf (pieceAt ss ps ds i)) h put (points-stay i) refl (pointsBefore-length inner (either .0) ss ps ds i) refl (lost-points-few i)
 
 -- after the last piece
 module _ (inner : ℕ) (ss : List ℕ) (ps ds : List ℤ) (i : ℕ) (last : i + 2 ≡ length ss) where

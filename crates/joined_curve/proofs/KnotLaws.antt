@@ -23,7 +23,7 @@ module _ (inner : ℕ) (ss : List ℕ) (ps ds : List ℤ) (some : 2 ≤ length s
   behind : (i count r : ℕ) → i + count ≡ length ss - 2 → getD joined (inner * i + 4 + r) 0 ≡ getD (knotsFrom inner ss ps ds i count) r 0
   behind i count r e =
       ap (λ l. getD l (inner * i + 4 + r) 0) (knots-cut inner ss ps ds some i count e)
-      ∙ ap (λ j. getD (knotsBefore inner ss i ++ knotsFrom inner ss ps ds i count) (j + r) 0) (sym (knotsBefore-length inner ss ps ds i))
+      ∙ ap (λ j. getD (knotsBefore inner ss i ++ knotsFrom inner ss ps ds i count) (j + r) 0) (sym (knotsBefore-length inner ss i))
       ∙ getD-append-add (knotsBefore inner ss i) (knotsFrom inner ss ps ds i count) r 0
 
   first : (r : ℕ) → r < 4 → getD joined r 0 ≡ getD ss 0 0

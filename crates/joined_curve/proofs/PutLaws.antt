@@ -21,10 +21,10 @@ module _ {A : Type 0} where
       ∙ ap (λ k. drop k before) (sym more)
 
   -- a longer result over a shorter one
-  pub over-over : (result longer before : List A) → length result ≤ length longer → over longer (over result before) ≡ over longer before
+  over-over : (result longer before : List A) → length result ≤ length longer → over longer (over result before) ≡ over longer before
   over-over result longer before h = ap (λ l. longer ++ l) (over-behind result before (length longer) h)
 
-  pub block-put : (stays lost block before : List A) → length lost ≤ length block → length stays + length block ≤ length before
+  block-put : (stays lost block before : List A) → length lost ≤ length block → length stays + length block ≤ length before
       → sets (over (stays ++ lost) before) (length stays) block ≡ over (stays ++ block) before
   block-put stays lost block before fits room =
       let whole = over (stays ++ lost) before in
@@ -37,7 +37,7 @@ module _ {A : Type 0} where
       ∙ rw (length-append stays block)
 
   -- the first block
-  pub block-begin : (block before : List A) {now : List A} → length block ≤ length before → now ≡ sets before 0 block → now ≡ over block before
+  block-begin : (block before : List A) {now : List A} → length block ≤ length before → now ≡ sets before 0 block → now ≡ over block before
   block-begin block before room put = put ∙ block-put [] [] block before (omega arith) (omega arith)
 
 -- i blocks are written; the next begins at `at`. There is room for all, one fewer than `count`, each `width` long and `inner` behind the one before it
@@ -53,7 +53,7 @@ module _ {A : Type 0} {count inner first width : ℕ} {result : ℕ → List A} 
   inner-most h = mul-le-mul-left inner (omega arith)
 
   -- the next block has its places
-  pub grown-room : suc i < count → inner * i + first + width ≤ length before
+  grown-room : suc i < count → inner * i + first + width ≤ length before
   grown-room h = omega (arith, inner-most h, g .room)
 
   pub grown-fits : suc i < count → at + width ≤ length out
@@ -63,17 +63,19 @@ module _ {A : Type 0} {count inner first width : ℕ} {result : ℕ → List A} 
   pub grown-small : (most size : ℕ) → inner ≤ most → count ≤ size → at ≤ most * size + first
   grown-small most size few short = omega (arith, g .place, mul-le-mul {n₁ = inner} {m₁ = i} {n₂ = most} {m₂ = size} few (omega (arith, g .within)))
 
-  -- one block more
-  pub grown-more : {now : List A} (block : List A) → suc i < count → now ≡ sets out at block → now ≡ over (result (i + 1)) before
+  -- one block more, over what does not stay
+  pub grown-more : {now : List A} (stays lost block : List A) → suc i < count → now ≡ sets out at block
+      → result i ≡ stays ++ lost → result (suc i) ≡ stays ++ block → length stays ≡ inner * i + first → length block ≡ width → length lost ≤ width
       → Grown count inner first width result before now (at + inner) (i + 1)
-  grown-more block h put more =
+  grown-more stays lost block h put was will many wide few =
       let next : i + 1 ≡ suc i = omega arith in
+      let here : length stays ≡ at = many ∙ sym (g .place) in
       record {
         within = omega arith;
         place = rw (next, mul-suc inner i) (omega (arith, g .place));
         room = g .room;
         places = ap length put ∙ length-sets out at block ∙ g .places;
-        holds = more;
+        holds = put ∙ rw (g .holds, ← here, was, next, will) (block-put stays lost block before (omega arith) (omega (arith, grown-room h)));
       }
 
 -- before the first block: what is written stays where the blocks go on

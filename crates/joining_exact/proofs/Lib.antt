@@ -5,5 +5,7 @@ mod PassesLaws
 mod ThirdLaws
 mod HermiteLaws
 mod JoinedLaws
+mod TwiceLaws
+mod MeetsLaws
 pub mod EitherLaws
 mod Controls

@@ -3,7 +3,7 @@ use mathlib.Core.Bool.{true}
 use mathlib.Core.List.{List}
 use mathlib.Core.Path.{_≡_, sym, ap, _∙_}
 use Prim.Native.Nat.{ℕ, zero, suc, _+_, _-_, _*_, _≤_, _<_}
-use native.Mathlib.Nat.{lt-trans, mul-le-mul}
+use native.Mathlib.Nat.{mul-le-mul}
 use native.Mathlib.Omega.{arith}
 use lib.IntN.{ℤ}
 use lib.ListN.{length, getD}
@@ -26,10 +26,12 @@ use Rattle.joined_curve.proofs.SentenceLaws.{joined-on-grid}
 use Rattle.joining_exact.proofs.OrderLaws.{knots-rise}
 use Rattle.joining_exact.proofs.RepeatLaws.{repeats-outer, repeats-inner}
 
--- the first parameter is below every later one
-first-below : (ss : List ℕ) → Rising ss → (k : ℕ) → suc k < length ss → getD ss 0 0 < getD ss (suc k) 0
-first-below ss rising zero h = rising .rises 0 h
-first-below ss rising (suc k) h = lt-trans (first-below ss rising k (omega arith)) (rising .rises (suc k) h)
+-- no parameter is below an earlier one
+pub parameters-rise : (ss : List ℕ) → Rising ss → (a n : ℕ) → a + n < length ss → getD ss a 0 ≤ getD ss (a + n) 0
+parameters-rise ss rising a zero h = let here : a + zero ≡ a = omega arith in rw here (omega arith)
+parameters-rise ss rising a (suc n) h =
+    let next : a + suc n ≡ suc (a + n) = omega arith in
+    rw next (omega (arith, parameters-rise ss rising a n (omega arith), rising .rises (a + n) (omega arith)))
 
 module _ (inner : ℕ) (ss ts : List ℕ) (rising : Rising ss) (k : KnotsOf inner ss ts) where
   starts : (a : ℕ) → a ≤ 3 → getD ts a 0 ≡ firstKnot ts
@@ -46,8 +48,9 @@ module _ (inner : ℕ) (ss ts : List ℕ) (rising : Rising ss) (k : KnotsOf inne
 
   domain-is : getD ts 3 0 < getD ts (inner * (length ss - 2) + 4) 0
   domain-is =
-      let end : length ss - 1 ≡ suc (length ss - 2) = omega (arith, rising .least) in
-      rw (k .first 3 (omega arith), ends (inner * (length ss - 2) + 4) (omega arith) (omega (arith, k .count)), end) (first-below ss rising (length ss - 2) (omega (arith, rising .least)))
+      let end : length ss - 1 ≡ 1 + (length ss - 2) = omega (arith, rising .least) in
+      rw (k .first 3 (omega arith), ends (inner * (length ss - 2) + 4) (omega arith) (omega (arith, k .count)), end)
+      (omega (arith, rising .rises 0 (omega (arith, rising .least)), parameters-rise ss rising 1 (length ss - 2) (omega (arith, rising .least))))
 
 module _ (inner : ℕ) (either : EitherNumber inner) (s : SplinePoints) (known : Joinable s) where
   abbrev ss : List ℕ
