@@ -1,5 +1,5 @@
 -- What is promised of a joined curve, with either number of inner knots: `join-passes`, `join-is-hermite`, `join-meets-points`, `join-has-entries`; and
--- of the two together: `meeting-inserted`.
+-- of the two together: `meeting-inserted`, `both-are-one-curve`.
 use mathlib.Core.Path.{_≡_}
 use Prim.Native.Nat.{ℕ}
 use native.Mathlib.Decide.{decLe}
@@ -12,10 +12,10 @@ use Rattle.joined_curve.proofs.SentenceLaws.{joined-points}
 use Rattle.joining.specs.SplinePoints.{SplinePoints}
 use Rattle.joining.specs.Answer.{joinedLists, joinNumber}
 use Rattle.joining.proofs.StandingLaws.{Joinable, joinable-of}
-use Rattle.joining_exact.specs.JoinedCurve.{JoinPasses, JoinIsHermite, JoinMeetsPoints, JoinHasEntries, MeetingPointsInserted}
+use Rattle.joining_exact.specs.JoinedCurve.{JoinPasses, JoinIsHermite, JoinMeetsPoints, JoinHasEntries, MeetingPointsInserted, BothAreOneCurve}
 use Rattle.joining_exact.proofs.PassesLaws.{joined-passes}
 use Rattle.joining_exact.proofs.JoinedLaws.{thrice-is-hermite}
-use Rattle.joining_exact.proofs.TwiceLaws.{twice-inserted, twice-is-hermite}
+use Rattle.joining_exact.proofs.TwiceLaws.{twice-inserted, twice-same, twice-is-hermite}
 use Rattle.joining_exact.proofs.MeetsLaws.{meets-points}
 
 module _ (inner : ℕ) (s : SplinePoints) (lent : Lists) (accepted : joinNumber inner s lent ≡ 0) where
@@ -30,6 +30,9 @@ join-passes inner either s lent e = joined-passes inner either s (joined-joinabl
 
 pub meeting-inserted : MeetingPointsInserted
 meeting-inserted s lent e = twice-inserted s (joined-joinable 2 s lent e)
+
+pub both-are-one-curve : BothAreOneCurve
+both-are-one-curve s lent e = twice-same s (joined-joinable 2 s lent e)
 
 pub join-is-hermite : JoinIsHermite
 join-is-hermite inner either s lent e =

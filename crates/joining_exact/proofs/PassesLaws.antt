@@ -7,6 +7,7 @@ use native.Mathlib.Nat.{mul-le-mul}
 use native.Mathlib.Omega.{arith}
 use lib.IntN.{ℤ}
 use lib.ListN.{length, getD}
+use Rattle.grid.specs.Limits.{splinePointsMost}
 use Rattle.grid.specs.Rows.{firstKnot, lastKnot, knotOrderOk}
 use Rattle.grid.specs.Check.{Passes}
 use Rattle.checked.specs.Checked.{Checked}
@@ -15,7 +16,7 @@ use Rattle.checked.proofs.GridLaws.{grid-each}
 use Rattle.checked.proofs.CheckedLaws.{passes-of-checked}
 use Rattle.spline_pieces.specs.Pieces.{pieces}
 use Rattle.spline_pieces.specs.Standing.{Rising}
-use Rattle.joined_curve.specs.Curve.{EitherNumber, joinedPoints}
+use Rattle.joined_curve.specs.Curve.{innerThrice, EitherNumber, joinedPoints}
 use Rattle.joined_curve.specs.Sentences.{KnotsOf}
 use Rattle.joined_curve.proofs.CurveLaws.{points-length}
 use Rattle.joining.specs.SplinePoints.{SplinePoints}
@@ -68,8 +69,8 @@ module _ (inner : ℕ) (either : EitherNumber inner) (s : SplinePoints) (known :
   many : (ps ds : List ℤ) → length (joinedPoints inner (pieces ss ps ds)) ≡ inner * (length ss - 2) + 4
   many ps ds = points-length inner (either .0) ss ps ds (rising .least)
 
-  few : inner * (length ss - 2) ≤ 3 * 340
-  few = mul-le-mul {m₂ = 340} (either .1) (omega (arith, rising .most))
+  few : inner * (length ss - 2) ≤ innerThrice * (splinePointsMost - 2)
+  few = mul-le-mul {m₂ = splinePointsMost - 2} (either .1) (omega (arith, rising .most))
 
   pub joined-checked : Checked 3 (joinedLists inner s .knots) (joinedLists inner s .xs) (joinedLists inner s .ys)
   unfolding knotOrderOk

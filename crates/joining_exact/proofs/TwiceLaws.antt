@@ -14,7 +14,7 @@ use Rattle.exact.specs.ExactCurve.{exactAt}
 use Rattle.grid.specs.Check.{Passes}
 use Rattle.span.specs.Span.{inDomain}
 use Rattle.span.proofs.SentenceLaws.{domain-exactly}
-use Rattle.knots_exact.specs.SameCurve.{SameOnAxis}
+use Rattle.knots_exact.specs.SameCurve.{SameOnAxis, SameCurve}
 use Rattle.spline_pieces.specs.Standing.{Rising}
 use Rattle.joined_curve.specs.Curve.{innerTwice, innerThrice}
 use Rattle.joined_curve.proofs.CurveLaws.{points-length}
@@ -44,6 +44,9 @@ module _ (s : SplinePoints) (known : Joinable s) where
   pub twice-inserted : InsertsEach 3 (innerParameters ss) (joinedLists innerTwice s) (joinedLists innerThrice s)
   twice-inserted = meeting-points-inserted ss (s .xs) (s .dxs) (s .ys) (s .dys) rising (known .whole .0) (known .whole .1) twice-passes
 
+  pub twice-same : SameCurve 3 (joinedLists innerTwice s) (joinedLists innerThrice s)
+  twice-same = inserts-each-keeps 3 (innerParameters ss) (joinedLists innerTwice s) (joinedLists innerThrice s) twice-passes twice-inserted
+
   -- every interval lies in the domain of the curve without the meeting points
   in-domain : (us : List ℤ) → length us ≡ 2 * (length ss - 2) + 4 → (i p q : ℕ) → suc i < length ss → getD ss i 0 * q ≤ p → p ≤ getD ss (suc i) 0 * q
       → inDomain (joinedLists innerTwice s .knots) 3 (length us - 1) p q ≡ true
@@ -72,9 +75,8 @@ module _ (s : SplinePoints) (known : Joinable s) where
   pub twice-is-hermite : HermiteOnAxis (joinedLists innerTwice s .knots) (joinedLists innerTwice s .xs) ss (s .xs) (s .dxs)
       × HermiteOnAxis (joinedLists innerTwice s .knots) (joinedLists innerTwice s .ys) ss (s .ys) (s .dys)
   twice-is-hermite =
-      let same = inserts-each-keeps 3 (innerParameters ss) (joinedLists innerTwice s) (joinedLists innerThrice s) twice-passes twice-inserted in
       let cubics = thrice-is-hermite s known in
       let some = rising .least in (
-        axis-twice (joinedLists innerTwice s .xs) (joinedLists innerThrice s .xs) (s .xs) (s .dxs) (points-length 2 (omega arith) ss (s .xs) (s .dxs) some) (same .x) (cubics .0),
-        axis-twice (joinedLists innerTwice s .ys) (joinedLists innerThrice s .ys) (s .ys) (s .dys) (points-length 2 (omega arith) ss (s .ys) (s .dys) some) (same .y) (cubics .1),
+        axis-twice (joinedLists innerTwice s .xs) (joinedLists innerThrice s .xs) (s .xs) (s .dxs) (points-length 2 (omega arith) ss (s .xs) (s .dxs) some) (twice-same .x) (cubics .0),
+        axis-twice (joinedLists innerTwice s .ys) (joinedLists innerThrice s .ys) (s .ys) (s .dys) (points-length 2 (omega arith) ss (s .ys) (s .dys) some) (twice-same .y) (cubics .1),
       )

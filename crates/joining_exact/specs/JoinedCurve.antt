@@ -11,6 +11,7 @@ use Rattle.grid.specs.Check.{Passes}
 use Rattle.fractions.specs.Fraction.{whole}
 use Rattle.fractions.specs.Order.{Equals}
 use Rattle.exact.specs.ExactCurve.{exactAt}
+use Rattle.knots_exact.specs.SameCurve.{SameCurve}
 use Rattle.joined_curve.specs.Curve.{innerTwice, innerThrice, EitherNumber}
 use Rattle.joined_curve.specs.Sentences.{KnotsOf, PointsOf}
 use Rattle.joining.specs.SplinePoints.{SplinePoints}
@@ -58,3 +59,7 @@ abbrev pub MeetingPointsInserted : Type 0
 MeetingPointsInserted =
     (s : SplinePoints) (lent : Lists) → joinNumber innerTwice s lent ≡ accepted
     → InsertsEach 3 (innerParameters (s .params)) (joinedLists innerTwice s) (joinedLists innerThrice s)
+
+-- ... so the two are one exact curve: they have the same domain and the same point at every fraction of it, on both axes
+abbrev pub BothAreOneCurve : Type 0
+BothAreOneCurve = (s : SplinePoints) (lent : Lists) → joinNumber innerTwice s lent ≡ accepted → SameCurve 3 (joinedLists innerTwice s) (joinedLists innerThrice s)

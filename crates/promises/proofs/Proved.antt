@@ -38,7 +38,7 @@ use Rattle.point_at_exact.proofs.PointNearLaws.{point-near-exact}
 use Rattle.spans_met_exact.proofs.CrossingLaws.{every-crossing-reported}
 use Rattle.knots_exact.proofs.InsertionLaws.{insert-keeps-curve}
 use Rattle.knots_exact.proofs.RemovalLaws.{remove-keeps-curve}
-use Rattle.joining_exact.proofs.EitherLaws.{join-passes, join-is-hermite, join-meets-points, join-has-entries, meeting-inserted}
+use Rattle.joining_exact.proofs.EitherLaws.{join-passes, join-is-hermite, join-meets-points, join-has-entries, meeting-inserted, both-are-one-curve}
 use Rattle.remove_knot.proofs.OutcomeLaws as Removal
 use Rattle.round_trip.proofs.RecordTrip.{written-reads-back, read-writes-back, one-record-for-each-curve, records-short, faults-exactly, reading-determined}
 use Rattle.round_trip.proofs.JobTrip.{job-reads-back, jobs-short, job-faults-exactly, job-reading-determined}
@@ -158,7 +158,7 @@ pub joined-curve-meets-points : JoinedCurveMeetsPoints
 joined-curve-meets-points = (join-meets-points, join-has-entries)
 
 pub meeting-points-drop-out : MeetingPointsDropOut
-meeting-points-drop-out = meeting-inserted
+meeting-points-drop-out = (meeting-inserted, both-are-one-curve)
 
 pub fault-is-leftmost : FaultIsLeftmost
 fault-is-leftmost = (records-told, jobs-told, job-fault-kept)

@@ -46,7 +46,7 @@ use Rattle.job_text.specs.Program.{PartsAreTheText, WrittenIsText, BrokenIsOneL
 use Rattle.clear_is_clear.specs.Clear.{ClearIsClear, EveryClampTold, ElseListed}
 use Rattle.worked.specs.Case.{AllHold}
 use Rattle.worked.specs.Worked.{cases}
-use Rattle.joining_exact.specs.JoinedCurve.{JoinPasses, JoinIsHermite, JoinMeetsPoints, JoinHasEntries, MeetingPointsInserted}
+use Rattle.joining_exact.specs.JoinedCurve.{JoinPasses, JoinIsHermite, JoinMeetsPoints, JoinHasEntries, MeetingPointsInserted, BothAreOneCurve}
 use Rattle.knots_exact.specs.SameCurve.{InsertKeepsCurve, RemoveKeepsCurve, CompactKeepsCurve, EditingPasses}
 
 -- "Numbers of refusal": the check answers n exactly when row n applies and no lower row does, and 0 exactly when no row does
@@ -146,9 +146,10 @@ JoinedCurveIsHermite = JoinIsHermite
 abbrev pub JoinedCurveMeetsPoints : Type 0
 JoinedCurveMeetsPoints = JoinMeetsPoints × JoinHasEntries
 
--- "Joining spline points": where they stand twice only the meeting points are gone: inserting each inner parameter once more gives the curve that has them
+-- "Joining spline points": where they stand twice only the meeting points are gone: inserting each inner parameter once more gives the curve that has them,
+-- and both are one exact curve
 abbrev pub MeetingPointsDropOut : Type 0
-MeetingPointsDropOut = MeetingPointsInserted
+MeetingPointsDropOut = MeetingPointsInserted × BothAreOneCurve
 
 -- "The record on disk": reading what was written gives the curve back, writing what was read gives the bytes back, bytes that read to one
 -- curve are equal, and a record has at most 10,261 bytes

@@ -11,6 +11,8 @@ use Rattle.curve.specs.HandingOver.{roomFor, roomNumber}
 use Rattle.curve.proofs.ListLaws.{lists-same}
 use Rattle.curve.proofs.RoomLaws.{enough-each}
 use Rattle.curve.proofs.HandingLaws.{handedOver-refused}
+use Rattle.grid.specs.Limits.{splinePointsMost}
+use Rattle.joined_curve.specs.Curve.{innerThrice}
 use Rattle.joined_curve.proofs.CurveLaws.{points-length}
 use Rattle.joining.specs.SplinePoints.{splinePoints}
 use Rattle.joining.specs.Answer.{joinedLists, joinableThen}
@@ -47,10 +49,10 @@ sub-points : tie.Need-sub-points
 sub-points c = omega (arith, joinable c .standing .x-axis .rising .least)
 
 -- the number of points is small
-few : (c : tie.Else1) → let a = c .before .before .before .before .args in a .inner * (length (a .params .now) - 2) ≤ 3 * 342
+few : (c : tie.Else1) → let a = c .before .before .before .before .args in a .inner * (length (a .params .now) - 2) ≤ innerThrice * splinePointsMost
 few c =
     let start = c .before .before .before .before in
-    mul-le-mul {m₂ = 342} (start .pre .1) (omega (arith, joinable c .standing .x-axis .rising .most))
+    mul-le-mul {m₂ = splinePointsMost} (start .pre .1) (omega (arith, joinable c .standing .x-axis .rising .most))
 
 mul-points : tie.Need-mul-points
 mul-points c = omega (arith, few c)

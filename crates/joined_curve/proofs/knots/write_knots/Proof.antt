@@ -4,8 +4,9 @@ use Prim.Native.Nat.{suc, _-_}
 use native.Mathlib.Omega.{arith}
 use lib.ListN.{length, getD, replicate}
 use lib.Seq.{length-sets}
+use Rattle.grid.specs.Limits.{splinePointsMost}
 use Rattle.spline_pieces.specs.Pieces.{pieces}
-use Rattle.joined_curve.specs.Curve.{endKnots, joinedKnots}
+use Rattle.joined_curve.specs.Curve.{endKnots, innerThrice, joinedKnots}
 use Rattle.joined_curve.proofs.CurveLaws.{knots-length}
 use Rattle.joined_curve.proofs.PutLaws.{grown-fits, grown-small, grown-begin, grown-all}
 use Rattle.joined_curve.proofs.GrowthLaws.{knotsTo, KnotsGrown, knots-grow, knots-grown}
@@ -50,7 +51,7 @@ put-knots-requires-2 c κs = grown-fits (c .before .before .before .loop .inv) (
 add-at : tie.Need-add-at Inv-loop μ-loop
 add-at c =
     let start = c .before .before .before .before .before .before .before .before .before .before .before .before .before .before in
-    omega (arith, grown-small (c .before .before .before .before .before .before .loop .inv) 3 342 (start .pre .1 .0 .1) (start .pre .0 .most), start .pre .1 .0 .1)
+    omega (arith, grown-small (c .before .before .before .before .before .before .loop .inv) innerThrice splinePointsMost (start .pre .1 .0 .1) (start .pre .0 .most), start .pre .1 .0 .1)
 
 add-i : tie.Need-add-i Inv-loop μ-loop
 add-i c = search needs

@@ -7,8 +7,9 @@ use lib.ListN.{length, getD, set, length-set}
 use mir.Syntax.{w32}
 use mir.Val.{toZ, ofZ}
 use mir.ValLaws.{toZ-ofZ}
+use Rattle.grid.specs.Limits.{splinePointsMost}
 use Rattle.spline_pieces.specs.Pieces.{pieces}
-use Rattle.joined_curve.specs.Curve.{joinedPoints}
+use Rattle.joined_curve.specs.Curve.{innerThrice, joinedPoints}
 use Rattle.joined_curve.proofs.CurveLaws.{points-length}
 use Rattle.joined_curve.proofs.PutLaws.{grown-fits, grown-small, grown-begin, grown-all}
 use Rattle.joined_curve.proofs.GrowthLaws.{pointsTo, PointsGrown, points-grow, points-grown}
@@ -54,7 +55,7 @@ put-piece-requires c κs =
 add-at : tie.Need-add-at Inv-loop μ-loop
 add-at c =
     let pre = c .before .before .before .before .before .before .before .pre in
-    omega (arith, grown-small (c .before .before .before .before .loop .inv) 3 342 (pre .1 .1 .0 .1) (pre .0 .rising .most), pre .1 .1 .0 .1)
+    omega (arith, grown-small (c .before .before .before .before .loop .inv) innerThrice splinePointsMost (pre .1 .1 .0 .1) (pre .0 .rising .most), pre .1 .1 .0 .1)
 
 add-i : tie.Need-add-i Inv-loop μ-loop
 add-i c = search needs
