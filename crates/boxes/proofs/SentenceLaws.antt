@@ -17,7 +17,7 @@ use Rattle.boxes.specs.Sentences.{Shared, MeetsExactly}
 pub order : {a b : ℤ} → leZ a b ≡ true → a ≤ℤ b
 order e = record { le = subst T (sym e) tt }
 
-test : {a b : ℤ} → a ≤ℤ b → leZ a b ≡ true
+pub test : {a b : ℤ} → a ≤ℤ b → leZ a b ≡ true
 test {a} {b} h = is-true (leZ a b) (h .le)
 
 -- some entry passes a test

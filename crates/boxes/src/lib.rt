@@ -1,7 +1,10 @@
-// The closed box round some control points, an axis at a time, and whether it meets a closed rectangle.
+// The closed box round some control points, an axis at a time, whether it meets a closed rectangle, and a rectangle widened.
+ghost use mathlib.Core.Bool.{true};
 ghost use mathlib.Core.Path.{_≡_};
+ghost use Rattle.grid.specs.Rows.{rectangleOk, radiusOk};
 ghost use Rattle.boxes.specs.Extent.{lesser, greater};
 ghost use Rattle.boxes.specs.Meeting.{meetsOnAxis};
+ghost use Rattle.boxes.specs.Widening.{widened};
 
 // A rectangle with closed sides.
 pub struct Rectangle {
@@ -9,6 +12,20 @@ pub struct Rectangle {
     pub high_x: i32,
     pub low_y: i32,
     pub high_y: i32,
+}
+
+// Every side moved outward by the radius. On the grid, and by a radius within its limit, no side leaves 32 bits.
+pub fn widened(clamp: Rectangle, radius: u32) -> Rectangle
+    requires { ⌜ (rectangleOk (clamp .«low_x») (clamp .«high_x») (clamp .«low_y») (clamp .«high_y») ≡ true) × (radiusOk radius ≡ true) ⌝ }
+    ensures answer { λ r. ⌜ r ≡ widened radius clamp ⌝ }
+{
+    let by = radius as i32;
+    Rectangle {
+        low_x: clamp.low_x - by,
+        high_x: clamp.high_x + by,
+        low_y: clamp.low_y - by,
+        high_y: clamp.high_y + by,
+    }
 }
 
 fn lesser(a: i32, b: i32) -> i32

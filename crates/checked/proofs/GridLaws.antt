@@ -1,4 +1,4 @@
--- Row 7: coordinates on the grid, over every index, and which is beyond it; and row 14, a rectangle on it.
+-- Row 7: coordinates on the grid, over every index, and which is beyond it; row 14, a rectangle on it; and row 22, a radius.
 use mathlib.Core.Bool.{true, false, not}
 use mathlib.Core.List.{List}
 use mathlib.Core.Logic.{_⊎_, inl, inr, ⊎-elim}
@@ -11,12 +11,12 @@ use lib.ListN.{length, getD}
 use lib.Signed.{leZ, _≤ℤ_, _<ℤ_, clashℤ}
 use Rattle.signed.proofs.OrderLaws.{ltZ-not-leZ}
 use Rattle.signed.proofs.BoundLaws.{size-of-bounds}
-use Rattle.grid.specs.Limits.{coordinateMost}
-use Rattle.grid.specs.Rows.{onGrid, allOnGrid, rangeOk, axisOk, rectangleOk}
+use Rattle.grid.specs.Limits.{coordinateMost, radiusMost}
+use Rattle.grid.specs.Rows.{onGrid, allOnGrid, rangeOk, axisOk, rectangleOk, radiusOk}
 use Rattle.refusal.proofs.JudgingLaws.{both}
 use Rattle.checked.specs.Checked.{OnGrid}
-use Rattle.checked.specs.Sentences.{OffGrid, RangeWrong, AxisWrong, RectangleWrong}
-use Rattle.checked.proofs.TestLaws.{one-fails, Judged, both-judged, three-judged, every-passes, every-judged}
+use Rattle.checked.specs.Sentences.{OffGrid, RangeWrong, AxisWrong, RectangleWrong, RadiusWrong}
+use Rattle.checked.proofs.TestLaws.{one-fails, Judged, leb-judged, both-judged, three-judged, every-passes, every-judged}
 
 -- tests as orders
 pub leZ-le : (a b : ℤ) → leZ a b ≡ true → a ≤ℤ b
@@ -82,3 +82,8 @@ axis-judged low high = three-judged (leZ-judged low high) (onGrid-judged low) (o
 pub rectangle-judged : (lowX highX lowY highY : ℤ) → Judged (rectangleOk lowX highX lowY highY) (AxisRight lowX highX × AxisRight lowY highY) (RectangleWrong lowX highX lowY highY)
 unfolding rectangleOk
 rectangle-judged lowX highX lowY highY = both-judged (axis-judged lowX highX) (axis-judged lowY highY)
+
+-- row 22: a radius
+pub radius-judged : (radius : ℕ) → Judged (radiusOk radius) (radius ≤ radiusMost) (RadiusWrong radius)
+unfolding radiusOk
+radius-judged radius = leb-judged radius radiusMost

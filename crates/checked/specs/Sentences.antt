@@ -1,4 +1,4 @@
--- The rows 1 to 7 and 14 of the heading "Numbers of refusal", each as a sentence over all entries: it holds where the row applies.
+-- The rows 1 to 7, 14 and 22 of the heading "Numbers of refusal", each as a sentence over all entries: it holds where the row applies.
 use mathlib.Core.List.{List, _∷_}
 use mathlib.Core.Logic.{_⊎_}
 use mathlib.Core.Path.{_≡_}
@@ -7,7 +7,7 @@ use lib.IntN.{ℤ, pos, negℤ}
 use lib.ListN.{length, getD}
 use lib.Signed.{_<ℤ_}
 use Rattle.refusal.specs.Chain.{Row, row}
-use Rattle.grid.specs.Limits.{pointsMost, knotMost, coordinateMost}
+use Rattle.grid.specs.Limits.{pointsMost, knotMost, coordinateMost, radiusMost}
 use Rattle.grid.specs.Rows.{firstKnot, lastKnot, occurrences}
 
 -- row 1: the degree is none of 1, 2, 3
@@ -57,6 +57,10 @@ AxisWrong low high = (high <ℤ low) ⊎ OffGrid low ⊎ OffGrid high
 -- row 14: a rectangle is wrong on one of its axes
 abbrev pub RectangleWrong : ℤ → ℤ → ℤ → ℤ → Type 0
 RectangleWrong lowX highX lowY highY = AxisWrong lowX highX ⊎ AxisWrong lowY highY
+
+-- row 22: a cutter's radius is above 4,096
+abbrev pub RadiusWrong : ℕ → Type 0
+RadiusWrong radius = radiusMost < radius
 
 -- the seven rows in their order, and behind them those that a call judges of a curve that passes
 abbrev pub curveRows : ℕ → List ℕ → List ℤ → List ℤ → List Row → List Row

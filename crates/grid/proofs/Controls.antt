@@ -6,7 +6,7 @@ use Prim.Native.Nat.{ℕ, _+_, _*_}
 use lib.IntN.{ℤ, pos, negsuc}
 use lib.ListN.{replicate}
 use Rattle.grid.specs.Limits.{pointsMost, knotsMost, splinePointsLeast, splinePointsMost, knotBytesMost, coordinateBytesMost, sidesMost, recordMost, jobMost}
-use Rattle.grid.specs.Rows.{degreeOk, pointCountOk, knotCountOk, risesFrom, knotOrderOk, allAre, endsOk, occurrences, repeatsMost, repeatsWithin, repeatsOk, onGrid, allOnGrid, rangeOk, axisOk, rectangleOk}
+use Rattle.grid.specs.Rows.{degreeOk, pointCountOk, knotCountOk, risesFrom, knotOrderOk, allAre, endsOk, occurrences, repeatsMost, repeatsWithin, repeatsOk, onGrid, allOnGrid, rangeOk, axisOk, rectangleOk, radiusOk}
 use Rattle.grid.specs.Check.{checkedThen, checkNumber}
 
 -- a degree, knots, x, y, and the number that the check answers
@@ -85,8 +85,13 @@ rectangles : rectangleOk (negsuc 262143) (pos 262144) (negsuc 262143) (pos 26214
 unfolding rectangleOk axisOk onGrid
 rectangles = refl
 
+-- 22: a pen, the widest cutter and one step wider, and the largest number of 32 bits
+radii : radiusOk 0 ∷ radiusOk 4096 ∷ radiusOk 4097 ∷ radiusOk 4294967295 ∷ [] ≡ true ∷ true ∷ false ∷ false ∷ []
+unfolding radiusOk
+radii = refl
+
 -- 3·342 - 2 points of the longest joined curve are the most; two bytes for each of the most knots, four for each of the most points; four sides
 -- for each of 64 clamps; the longest record and the longest job
 sizes : splinePointsLeast ∷ (3 * splinePointsMost) ∷ knotBytesMost ∷ coordinateBytesMost ∷ sidesMost ∷ recordMost ∷ jobMost ∷ []
-    ≡ 2 ∷ (pointsMost + 2) ∷ (2 * knotsMost) ∷ (4 * pointsMost) ∷ 256 ∷ 10261 ∷ 11477 ∷ []
+    ≡ 2 ∷ (pointsMost + 2) ∷ (2 * knotsMost) ∷ (4 * pointsMost) ∷ 256 ∷ 10261 ∷ 11482 ∷ []
 sizes = refl

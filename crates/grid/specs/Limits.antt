@@ -25,6 +25,12 @@ knotBytesMost = 2056
 abbrev pub coordinateBytesMost : ℕ  -- "The record on disk": bytes of a field of coordinates
 coordinateBytesMost = 4096
 
+abbrev pub radiusMost : ℕ  -- "Numbers of refusal", 22: the largest radius of a cutter
+radiusMost = 4096
+
+abbrev pub radiusBytes : ℕ  -- "The record on disk": bytes of the radius in its field
+radiusBytes = 2
+
 abbrev pub clampBytes : ℕ  -- "The record on disk": bytes of a clamp's field, and clamps of a job
 clampBytes = 16
 
@@ -37,8 +43,8 @@ sidesMost = 4 * clampsMost
 abbrev pub headBytes : ℕ  -- "The record on disk": a tag and a length stand in front of a field's contents
 headBytes = 3
 
-abbrev pub recordMost : ℕ  -- the longest record: four fields; and the longest job
+abbrev pub recordMost : ℕ  -- the longest record: four fields; and the longest job: the radius and all clamps behind it
 recordMost = 4 * headBytes + (1 + knotBytesMost + coordinateBytesMost + coordinateBytesMost)
 
 abbrev pub jobMost : ℕ
-jobMost = recordMost + clampsMost * (headBytes + clampBytes)
+jobMost = recordMost + (headBytes + radiusBytes) + clampsMost * (headBytes + clampBytes)

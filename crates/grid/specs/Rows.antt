@@ -1,4 +1,4 @@
--- The tests behind refusals 1 to 7 and 14, one for each row (heading "Numbers of refusal"): true where the row does not refuse.
+-- The tests behind refusals 1 to 7, 14 and 22, one for each row (heading "Numbers of refusal"): true where the row does not refuse.
 -- `m` is the degree, `ts` the knots, `xs` and `ys` the coordinates.
 use mathlib.Core.Bool.{Bool, true, not, cond, _&&_, _||_}
 use mathlib.Core.List.{List, [], _∷_}
@@ -7,7 +7,7 @@ use lib.Dec.{leb, eqb}
 use lib.IntN.{ℤ, pos, negℤ}
 use lib.ListN.{length, getD, take, drop}
 use lib.Signed.{leZ}
-use Rattle.grid.specs.Limits.{pointsMost, knotMost, coordinateMost}
+use Rattle.grid.specs.Limits.{pointsMost, knotMost, coordinateMost, radiusMost}
 
 unfoldable pub degreeOk : ℕ → Bool  -- row 1: the degree is 1, 2 or 3
 degreeOk m = leb 1 m && leb m 3
@@ -71,3 +71,6 @@ axisOk low high = leZ low high && onGrid low && onGrid high
 
 unfoldable pub rectangleOk : ℤ → ℤ → ℤ → ℤ → Bool  -- row 14: a rectangle's sides on both axes
 rectangleOk lowX highX lowY highY = axisOk lowX highX && axisOk lowY highY
+
+unfoldable pub radiusOk : ℕ → Bool  -- row 22: a cutter's radius is at most 4,096
+radiusOk radius = leb radius radiusMost

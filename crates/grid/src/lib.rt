@@ -10,6 +10,7 @@ ghost use mathlib.Core.Path.{_≡_};
 ghost use Rattle.grid.specs.Check.{checkNumber};
 pub use range::on_grid;
 pub use range::on_grid_wide;
+pub use range::radius_ok;
 pub use range::range_ok;
 pub use range::sides_ok;
 
@@ -29,6 +30,10 @@ pub const KNOT_BYTES_MOST: usize = 2056;
 
 pub const COORDINATE_BYTES_MOST: usize = 4096;
 
+pub const RADIUS_MOST: u32 = 4096;
+
+pub const RADIUS_BYTES: usize = 2;
+
 pub const CLAMP_BYTES: usize = 16;
 
 pub const CLAMPS_MOST: usize = 64;
@@ -39,7 +44,9 @@ pub const HEAD_BYTES: usize = 3;
 
 pub const RECORD_MOST: usize = 4 * HEAD_BYTES + 1 + KNOT_BYTES_MOST + 2 * COORDINATE_BYTES_MOST;
 
-pub const JOB_MOST: usize = RECORD_MOST + CLAMPS_MOST * (HEAD_BYTES + CLAMP_BYTES);
+pub const JOB_MOST: usize = RECORD_MOST
+    + (HEAD_BYTES + RADIUS_BYTES)
+    + CLAMPS_MOST * (HEAD_BYTES + CLAMP_BYTES);
 
 // 0, or the lowest of the numbers 1 to 7 that applies.
 pub fn check(degree: u32, knots: &[u16], xs: &[i32], ys: &[i32]) -> u32

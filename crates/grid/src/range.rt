@@ -1,6 +1,6 @@
-// Rows 7 and 14: coordinates and sides on the grid.
+// Rows 7, 14 and 22: coordinates and sides on the grid, and a radius within its limit.
 ghost use mathlib.Core.Path.{_≡_};
-ghost use Rattle.grid.specs.Rows.{onGrid, allOnGrid, rangeOk, axisOk, rectangleOk};
+ghost use Rattle.grid.specs.Rows.{onGrid, allOnGrid, rangeOk, axisOk, rectangleOk, radiusOk};
 
 // z is on the grid.
 pub fn on_grid(z: i32) -> bool
@@ -43,6 +43,13 @@ pub fn sides_ok(low_x: i32, high_x: i32, low_y: i32, high_y: i32) -> bool
         return false;
     }
     axis_ok(low_y, high_y)
+}
+
+// A cutter's radius, in steps.
+pub fn radius_ok(radius: u32) -> bool
+    ensures answer { λ r. ⌜ r ≡ radiusOk radius ⌝ }
+{
+    radius <= crate::RADIUS_MOST
 }
 
 // Every entry of both lists is on the grid.

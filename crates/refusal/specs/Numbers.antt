@@ -66,3 +66,6 @@ lengthRefused = 20
 
 abbrev pub leftOverRefused : ℕ  -- a byte behind a lone record, or behind a job's 64th clamp
 leftOverRefused = 21
+
+abbrev pub radiusRefused : ℕ  -- a cutter's radius above the largest
+radiusRefused = 22

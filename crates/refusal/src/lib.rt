@@ -42,3 +42,5 @@ pub const TAG: u32 = 19;
 pub const LENGTH: u32 = 20;
 
 pub const LEFT_OVER: u32 = 21;
+
+pub const RADIUS: u32 = 22;

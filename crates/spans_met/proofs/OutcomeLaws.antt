@@ -1,65 +1,74 @@
 -- What the list call answers and leaves is what its sentences say: where nothing is refused there is a place for each listed span, and the
 -- rectangle's sides are in order.
 use mathlib.Core.Bool.{true, _&&_}
+use mathlib.Core.List.{List}
+use mathlib.Core.Logic.{Iff·trans}
 use mathlib.Core.Path.{_≡_, sym, _∙_}
 use Prim.Native.Nat.{ℕ, _≤_}
 use native.Mathlib.Decide.{ℕ-discrete}
 use native.Mathlib.Omega.{arith}
 use borrow.Author.Tests.{leb-true}
 use lib.Dec.{leb, eqb·suc-zero}
-use lib.IntN.{ℤ}
+use lib.IntN.{ℤ, pos, _+ℤ_, _-ℤ_}
 use lib.ListN.{length}
 use lib.Signed.{leZ, _≤ℤ_}
 use Rattle.refusal.proofs.JudgingLaws.{unless-accepted, both}
 use Rattle.curve.specs.Lists.{Lists}
 use Rattle.grid.specs.Check.{checkNumber, Passes}
-use Rattle.grid.specs.Rows.{onGrid, axisOk, rectangleOk}
+use Rattle.grid.specs.Rows.{radiusOk, onGrid, axisOk, rectangleOk}
 use Rattle.grid.proofs.SizeLaws.{sizes-of-passes}
 use Rattle.grid.proofs.ThenLaws.{checkedThen-refused, checkedThen-passed}
 use Rattle.boxes.specs.declared.Rectangle.{Rectangle}
-use Rattle.boxes.proofs.SentenceLaws.{order}
+use Rattle.boxes.specs.Widening.{widened}
+use Rattle.boxes.proofs.SentenceLaws.{order, test}
+use Rattle.boxes.proofs.NearLaws.{widened-exactly}
+use Rattle.signed.proofs.OrderLaws.{leZ-true, le-leZ}
+use Rattle.signed.proofs.PartLaws.{sum-parts, difference-parts}
 use Rattle.span_walk.specs.SpansMet.{nonEmpty, boxMeets, toCheck, spansOf, spanCount, spansMet}
 use Rattle.span_walk.specs.SpanLists.{SpanLists, knotsMet}
+use Rattle.span_walk.specs.Sentences.{MayMeet}
 use Rattle.span_walk.proofs.KeepLaws.{keep-fewer}
 use Rattle.span_walk.proofs.SentenceLaws.{listed-exactly, knots-of-each-span, success-hands-spans}
 use Rattle.spans_met.specs.Answer.{numberWithPlaces, listNumber}
-use Rattle.spans_met.specs.Outcome.{SuccessListsSpans, AcceptedListIsExact, RefusalListsNothing}
+use Rattle.spans_met.specs.Outcome.{SuccessListsSpans, MayReach, AcceptedListIsExact, RefusalListsNothing}
 use Rattle.spans_met.proofs.AnswerLaws.{sidesOk}
 
-module _ (m : ℕ) (c : Lists) (clamp : Rectangle) (before : SpanLists) where
+module _ (m : ℕ) (c : Lists) (clamp : Rectangle) (radius : ℕ) (before : SpanLists) where
   -- no more spans are listed than are not empty
-  listed-fewer : length (spansMet clamp m (c .knots) (c .xs) (c .ys)) ≤ spanCount m (c .knots) (length (c .xs))
+  listed-fewer : length (spansMet (widened radius clamp) m (c .knots) (c .xs) (c .ys)) ≤ spanCount m (c .knots) (length (c .xs))
   unfolding spansMet spanCount
   listed-fewer =
-      keep-fewer (toCheck clamp m (c .knots) (c .xs) (c .ys)) (nonEmpty (c .knots))
-      (λ i h. both (nonEmpty (c .knots) i) (boxMeets clamp m (c .xs) (c .ys) i) h .0)
+      keep-fewer (toCheck (widened radius clamp) m (c .knots) (c .xs) (c .ys)) (nonEmpty (c .knots))
+      (λ i h. both (nonEmpty (c .knots) i) (boxMeets (widened radius clamp) m (c .xs) (c .ys) i) h .0)
       (spansOf m (length (c .xs)))
 
   -- nothing refused: the curve passes, the rectangle's sides do, and both lists have a place for each non-empty span
   record Accepted : Type 0 where
     passed : Passes m (c .knots) (c .xs) (c .ys)
+    short : radiusOk radius ≡ true
     sides : sidesOk clamp ≡ true
     lows : spanCount m (c .knots) (length (c .xs)) ≤ length (before .lows)
     highs : spanCount m (c .knots) (length (c .xs)) ≤ length (before .highs)
 
-  accepted-says : listNumber m c clamp before ≡ 0 → Accepted
+  accepted-says : listNumber m c clamp radius before ≡ 0 → Accepted
   unfolding numberWithPlaces
   accepted-says e = by (ℕ-discrete (checkNumber m (c .knots) (c .xs) (c .ys)) 0)
     where
       by : Dec (checkNumber m (c .knots) (c .xs) (c .ys) ≡ 0) → Accepted
       by (no refused) = absurd (refused (sym (checkedThen-refused m (c .knots) (c .xs) (c .ys) _ refused) ∙ e))
       by (yes passed) =
-          let sides = unless-accepted (sidesOk clamp) 13 _ (sym (checkedThen-passed m (c .knots) (c .xs) (c .ys) _ passed) ∙ e) in
+          let short = unless-accepted (radiusOk radius) 21 _ (sym (checkedThen-passed m (c .knots) (c .xs) (c .ys) _ passed) ∙ e) in
+          let sides = unless-accepted (sidesOk clamp) 13 _ (short .1) in
           let room = unless-accepted _ 14 0 (sides .1) in
           let each = both (leb (spanCount m (c .knots) (length (c .xs))) (length (before .lows))) (leb (spanCount m (c .knots) (length (c .xs))) (length (before .highs))) (room .0) in
-          record { passed = passed; sides = sides .0; lows = leb-true _ _ (each .0); highs = leb-true _ _ (each .1) }
+          record { passed = passed; short = short .0; sides = sides .0; lows = leb-true _ _ (each .0); highs = leb-true _ _ (each .1) }
 
 pub success-lists-spans : SuccessListsSpans
-success-lists-spans m c clamp before e =
-    let fewer = listed-fewer m c clamp before in
-    let room = accepted-says m c clamp before e in
-    let knots = knots-of-each-span clamp m (c .knots) (c .xs) (c .ys) in
-    let hands = success-hands-spans (knotsMet clamp m (c .knots) (c .xs) (c .ys)) before (omega (arith, knots .count-lows, room .lows)) (omega (arith, knots .count-highs, room .highs)) in
+success-lists-spans m c clamp radius before e =
+    let fewer = listed-fewer m c clamp radius before in
+    let room = accepted-says m c clamp radius before e in
+    let knots = knots-of-each-span (widened radius clamp) m (c .knots) (c .xs) (c .ys) in
+    let hands = success-hands-spans (knotsMet (widened radius clamp) m (c .knots) (c .xs) (c .ys)) before (omega (arith, knots .count-lows, room .lows)) (omega (arith, knots .count-highs, room .highs)) in
     record { answer = rw e; lows = rw e (hands .0); highs = rw e (hands .1) }
 
 -- sides that pass row 14 are in order
@@ -73,11 +82,49 @@ sides-order clamp e =
     let each = both (axisOk (clamp .«low_x») (clamp .«high_x»)) (axisOk (clamp .«low_y») (clamp .«high_y»)) e in
     (axis-order _ _ (each .0), axis-order _ _ (each .1))
 
+-- a widened range of an axis is in order
+moved-order : (radius : ℕ) (low high : ℤ) → low ≤ℤ high → (low -ℤ pos radius) ≤ℤ (high +ℤ pos radius)
+moved-order radius low high sides =
+    order (le-leZ (low -ℤ pos radius) (high +ℤ pos radius) (omega (arith, leZ-true low high (test sides), difference-parts low (pos radius), sum-parts high (pos radius))))
+
+-- a span whose box shares a point with the widened clamp is one that may be reached, and back
+module _ (clamp : Rectangle) (radius m : ℕ) (ts : List ℕ) (xs ys : List ℤ) (i : ℕ) (sides : (clamp .«low_x» ≤ℤ clamp .«high_x») × (clamp .«low_y» ≤ℤ clamp .«high_y»)) where
+  reaches : MayMeet (widened radius clamp) m ts xs ys i → MayReach clamp radius m ts xs ys i
+  unfolding widened
+  reaches meets =
+      let at = meets .shares in
+      record {
+        from = meets .from;
+        to = meets .to;
+        wide = meets .wide;
+        x = at .x;
+        y = at .y;
+        box-x = at .box-x;
+        box-y = at .box-y;
+        near-x = widened-exactly radius _ _ (at .x) (sides .0) .0 (at .low-x, at .high-x);
+        near-y = widened-exactly radius _ _ (at .y) (sides .1) .0 (at .low-y, at .high-y);
+      }
+
+  reached : MayReach clamp radius m ts xs ys i → MayMeet (widened radius clamp) m ts xs ys i
+  unfolding widened
+  reached near =
+      let x = widened-exactly radius _ _ (near .x) (sides .0) .1 (near .near-x) in
+      let y = widened-exactly radius _ _ (near .y) (sides .1) .1 (near .near-y) in
+      record {
+        from = near .from;
+        to = near .to;
+        wide = near .wide;
+        shares = record { x = near .x; y = near .y; box-x = near .box-x; box-y = near .box-y; low-x = x .0; high-x = x .1; low-y = y .0; high-y = y .1 };
+      }
+
 pub accepted-list-is-exact : AcceptedListIsExact
-accepted-list-is-exact m c clamp before e =
-    let a = accepted-says m c clamp before e in
+unfolding widened
+accepted-list-is-exact m c clamp radius before e i =
+    let a = accepted-says m c clamp radius before e in
     let sides = sides-order clamp (a .sides) in
-    listed-exactly clamp m (c .knots) (c .xs) (c .ys) (sizes-of-passes m (c .knots) (c .xs) (c .ys) (a .passed) .as-many) (sides .0) (sides .1)
+    let as-many = sizes-of-passes m (c .knots) (c .xs) (c .ys) (a .passed) .as-many in
+    Iff·trans (listed-exactly (widened radius clamp) m (c .knots) (c .xs) (c .ys) as-many (moved-order radius _ _ (sides .0)) (moved-order radius _ _ (sides .1)) i)
+    (reaches clamp radius m (c .knots) (c .xs) (c .ys) i sides, reached clamp radius m (c .knots) (c .xs) (c .ys) i sides)
 
 pub refusal-lists-nothing : RefusalListsNothing
-refusal-lists-nothing m c clamp before n e = (rw (e, eqb·suc-zero n), rw (e, eqb·suc-zero n))
+refusal-lists-nothing m c clamp radius before n e = (rw (e, eqb·suc-zero n), rw (e, eqb·suc-zero n))

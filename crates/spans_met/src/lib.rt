@@ -1,4 +1,4 @@
-// The list of spans that may meet a clamp.
+// The list of spans on which a cutter may meet a clamp.
 pub use boxes::Rectangle;
 ghost use mathlib.Core.Path.{_≡_};
 ghost use Rattle.curve.specs.Lists.{lists};
@@ -11,7 +11,7 @@ pub enum SpansAnswer {
     Refused(u32),
 }
 
-// List the two knots of each non-empty span whose box of carrying points meets the clamp, in rising order.
+// List the two knots of each non-empty span whose box of carrying points meets the clamp, widened by the radius, in rising order.
 // Both lists need a place for each non-empty span of the curve.
 pub fn list_spans_met(
     degree: u32,
@@ -19,18 +19,22 @@ pub fn list_spans_met(
     xs: &[i32],
     ys: &[i32],
     clamp: Rectangle,
+    radius: u32,
     lows: &mut [u16],
     highs: &mut [u16],
 ) -> SpansAnswer
-    ensures answer { λ r. ⌜ r ≡ listAnswer degree (lists (now (knots .entry)) (now (xs .entry)) (now (ys .entry))) clamp
+    ensures answer { λ r. ⌜ r ≡ listAnswer degree (lists (now (knots .entry)) (now (xs .entry)) (now (ys .entry))) clamp radius
         (spanLists (now (lows .entry)) (now (highs .entry))) ⌝ }
     ensures result { λ r. ⌜ spanLists (now (lows .exit)) (now (highs .exit))
-        ≡ listed degree (lists (now (knots .entry)) (now (xs .entry)) (now (ys .entry))) clamp
+        ≡ listed degree (lists (now (knots .entry)) (now (xs .entry)) (now (ys .entry))) clamp radius
         (spanLists (now (lows .entry)) (now (highs .entry))) ⌝ }
 {
     let number = grid::check(degree, knots, xs, ys);
     if number != refusal::ACCEPTED {
         return SpansAnswer::Refused(number);
+    }
+    if !grid::radius_ok(radius) {
+        return SpansAnswer::Refused(refusal::RADIUS);
     }
     if !grid::sides_ok(clamp.low_x, clamp.high_x, clamp.low_y, clamp.high_y) {
         return SpansAnswer::Refused(refusal::RECTANGLE);
@@ -43,6 +47,7 @@ pub fn list_spans_met(
     if highs.len() < places {
         return SpansAnswer::Refused(refusal::ROOM);
     }
-    let count = span_listing::list_met(knots, xs, ys, m, clamp, lows, highs);
+    let reach = boxes::widened(clamp, radius);
+    let count = span_listing::list_met(knots, xs, ys, m, reach, lows, highs);
     SpansAnswer::Listed(count)
 }
