@@ -1,4 +1,5 @@
--- Why every crossing is reported.
+-- Why every cut is reported.
 pub mod Controls
 pub mod CrossingLaws
+pub mod DistanceLaws
 pub mod MeetsLaws

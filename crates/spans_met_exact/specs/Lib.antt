@@ -1,2 +1,2 @@
--- What it means that every crossing is reported.
+-- What it means that every cut is reported.
 pub mod Crossing

@@ -1,1 +1,1 @@
-// Why every crossing is reported: the list of spans against the exact curve. There is nothing here that runs.
+// Why every cut is reported: the list of spans against the exact curve. There is nothing here that runs.
