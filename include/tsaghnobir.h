@@ -28,11 +28,11 @@
  * and the single numbers lent by a pointer hold what is said with the call.
  *
  * BROKEN BYTES. A record is four fields: the degree, the knots, x and y, with the tags 1, 2, 3 and 4; in a job
- * up to 64 clamps of tag 5 follow. A field is its tag in one byte, its length in two, low byte first, and as
- * many bytes of contents. The length is 1 for the degree, even and at most 2056 for the knots, a multiple of 4
- * and at most 4096 for x and for y, 0 included for these three, and 16 for a clamp. A reader goes through the bytes
- * from the first on and judges of each field its tag, then its length, then its contents; it tells the first fault
- * that it comes to:
+ * the cutter's radius, of tag 6, and up to 64 clamps of tag 5 follow. A field is its tag in one byte, its length in
+ * two, low byte first, and as many bytes of contents. The length is 1 for the degree, even and at most 2056 for the
+ * knots, a multiple of 4 and at most 4096 for x and for y, 0 included for these three, 2 for the radius and 16 for a
+ * clamp. A reader goes through the bytes from the first on and judges of each field its tag, then its length, then
+ * its contents; it tells the first fault that it comes to:
  *
  *   TSB_ENDED       the bytes end too early                                     place: the number of bytes
  *   TSB_TAG         a field begins with another tag than the one due there      place: that of the tag
@@ -40,9 +40,9 @@
  *   TSB_LEFT_OVER   a byte stands behind a lone record or a 64th clamp          place: that of the byte
  *
  * Places count from 0. So bytes that end between the two of a length are TSB_ENDED, whatever the first of them
- * is; a wrong length whose contents run out as well is TSB_LENGTH; and behind a job's record, or behind a clamp
- * before the 64th, a byte other than 5 is TSB_TAG. `*place` is written by these four refusals and by nothing
- * else: on success and on every other refusal it is as before.
+ * is; a wrong length whose contents run out as well is TSB_LENGTH; and a byte other than 6 behind a job's record, or
+ * other than 5 behind its radius or behind a clamp before the 64th, is TSB_TAG. `*place` is written by these four
+ * refusals and by nothing else: on success and on every other refusal it is as before.
  *
  * WHAT THE CALLER OWES, because no proof can see it from inside:
  *   - a pointer is valid for as many entries as its length says and aligned for its type; a pointer to a
@@ -73,8 +73,13 @@
  * fewer places: lists that were long enough still are. tsb_spans may list more spans of the shorter result, where the box
  * of a span reaches to points of its neighbours. A caller of version 3 who needs the meeting points among the control
  * points calls tsb_join_through_points, which is the old tsb_join under its new name; any other goes by *points, as before.
+ * Version 5: the cutter has a radius. A caller of version 4 hands one to each call of tsb_spans, behind the four sides, where
+ * 0 lists as before; lends a uint32_t for the job's to tsb_read_job and tsb_feed_end, behind `points`; and has work lists of
+ * TSB_WORK_MOST = 11482 places, five more. A job has the field of tag 6 between its record and its clamps. Without it, it is
+ * refused by 19, or by 16 where it ends there, so jobs made before have to be made again; records have not changed.
+ * A radius above 4096 is refused by 22, which is new.
  */
-#define TSB_API_VERSION 4
+#define TSB_API_VERSION 5
 
 /* The limits, and places that are always enough for a result. */
 #define TSB_POINTS_MOST 1024       /* points of a curve */
@@ -83,8 +88,9 @@
 #define TSB_COORDINATE_MOST 262144 /* size of a coordinate, a tangent or a rectangle's side */
 #define TSB_SPLINE_POINTS_MOST 342 /* spline points to join: to 684 points by tsb_join, 1024 by tsb_join_through_points */
 #define TSB_RECORD_MOST 10261      /* bytes of a record */
-#define TSB_JOB_MOST 11477         /* bytes of a job */
+#define TSB_JOB_MOST 11482         /* bytes of a job */
 #define TSB_CLAMPS_MOST 64         /* clamps of a job */
+#define TSB_RADIUS_MOST 4096       /* steps of a cutter's radius */
 #define TSB_WORK_MOST TSB_JOB_MOST /* bytes of the longest job: places that tsb_feed asks of a work list, or more */
 
 /* The refusal numbers. */
@@ -111,7 +117,8 @@ enum tsb_refusal {
     TSB_JOINED_RANGE = 18,  /* joining: a control point would lie beyond +-262144 */
     TSB_TAG = 19,           /* reading: an unexpected tag */
     TSB_LENGTH = 20,        /* reading: a length that the field cannot have */
-    TSB_LEFT_OVER = 21      /* reading: a byte behind a lone record, or behind a job's 64th clamp */
+    TSB_LEFT_OVER = 21,     /* reading: a byte behind a lone record, or behind a job's 64th clamp */
+    TSB_RADIUS = 22         /* the cutter's radius is above 4096 */
 };
 
 /* C++ and compilers before C99 lack the word; where the compiler has its own, it is used. */
@@ -238,18 +245,21 @@ uint32_t tsb_join_through_points(
     size_t *TSB_RESTRICT points);
 
 /*
- * Where the curve may meet a clamp, the rectangle from low_x to high_x and from low_y to high_y with its
- * sides. A span is a part of the domain between two different neighbouring knots; it is listed if the box
- * of its carrying points meets the rectangle, a shared side or corner included. The lower knot of each goes
- * to lows, the upper to highs, in rising order, and their number to *count. Whatever parameter, whole or
- * not, the exact curve meets the clamp at, a listed span holds it; a listed span need not meet the clamp.
+ * Where a cutter that follows the curve may meet a clamp, the rectangle from low_x to high_x and from low_y to
+ * high_y with its sides. The cutter's radius is in steps, at most TSB_RADIUS_MOST; 0 asks for the centre line
+ * alone. Each of the four sides is moved outwards by the radius, and may then pass +-262144. A span is a part of
+ * the domain between two different neighbouring knots; it is listed if the box of its carrying points meets the
+ * rectangle so widened, a shared side or corner included. The lower knot of each goes to lows, the upper to highs,
+ * in rising order, and their number to *count.
+ * If some point of the clamp, in or on it, is at most the radius away from the exact point at a parameter, whole
+ * or not, a listed span holds this parameter; a listed span need not come that near.
  * Both lists need a place for every span of the curve, listed or not: at most xs_len - degree.
- * Refused by 1 to 7, then 14, then 15.
+ * Refused by 1 to 7, then 22, then 14 for the sides as they are handed over, then 15.
  */
 uint32_t tsb_spans(
     uint32_t degree, const uint16_t *knots, size_t knots_len,
     const int32_t *xs, size_t xs_len, const int32_t *ys, size_t ys_len,
-    int32_t low_x, int32_t high_x, int32_t low_y, int32_t high_y,
+    int32_t low_x, int32_t high_x, int32_t low_y, int32_t high_y, uint32_t radius,
     uint16_t *TSB_RESTRICT lows, size_t lows_len,
     uint16_t *TSB_RESTRICT highs, size_t highs_len,
     size_t *TSB_RESTRICT count);
@@ -279,11 +289,13 @@ uint32_t tsb_read_record(
     uint32_t *TSB_RESTRICT degree, size_t *TSB_RESTRICT points, size_t *TSB_RESTRICT place);
 
 /*
- * A job: a curve's record and behind it up to 64 clamps, of which each is a rectangle to keep the curve clear
- * of. The curve goes where tsb_read_record puts it; low x, high x, low y, high y of each clamp go to clamps,
- * and the number of clamps to *clamp_count. clamps_len counts numbers, four for each clamp.
+ * A job: a curve's record, behind it the cutter's radius, a number of 16 bits, low byte first, and behind this up to
+ * 64 clamps, of which each is a rectangle to keep the cutter clear of. The curve goes where tsb_read_record puts it, the
+ * radius to *radius; low x, high x, low y, high y of each clamp go to clamps as they are, not widened, and the number of
+ * clamps to *clamp_count. clamps_len counts numbers, four for each clamp.
  * Refused by 16, 19, 20 or 21 where the bytes, first to last, are no job: the first fault, and where it stands goes
- * to *place. Then by 1 to 7, then 14 for any of the clamps, then 15; these leave *place as it is, and so does a success.
+ * to *place. Then by 1 to 7, then 22, then 14 for any of the clamps, then 15; these leave *place as it is, and so does a
+ * success.
  */
 uint32_t tsb_read_job(
     const uint8_t *bytes, size_t bytes_len,
@@ -291,8 +303,8 @@ uint32_t tsb_read_job(
     int32_t *TSB_RESTRICT out_xs, size_t out_xs_len,
     int32_t *TSB_RESTRICT out_ys, size_t out_ys_len,
     int32_t *TSB_RESTRICT clamps, size_t clamps_len,
-    uint32_t *TSB_RESTRICT degree, size_t *TSB_RESTRICT points, size_t *TSB_RESTRICT clamp_count,
-    size_t *TSB_RESTRICT place);
+    uint32_t *TSB_RESTRICT degree, size_t *TSB_RESTRICT points, uint32_t *TSB_RESTRICT radius,
+    size_t *TSB_RESTRICT clamp_count, size_t *TSB_RESTRICT place);
 
 /*
  * A job that comes in bursts, over a serial line say: feed each burst as it comes, and tell the end. All bursts
@@ -306,7 +318,8 @@ uint32_t tsb_read_job(
  *       size_t count = receive(burst, sizeof burst);
  *       tsb_feed(burst, count, work, TSB_WORK_MOST, &received);
  *   }
- *   uint32_t refusal = tsb_feed_end(work, TSB_WORK_MOST, lists.., &degree, &points, &clamp_count, &place, &received);
+ *   uint32_t refusal = tsb_feed_end(
+ *       work, TSB_WORK_MOST, lists.., &degree, &points, &radius, &clamp_count, &place, &received);
  *
  * `*received` is all that is kept between the calls, beside the work list: 0 before the first burst, and 0 again
  * after an end, so that the next job may follow on the same list. The caller hands both on as they are.
@@ -336,8 +349,8 @@ uint32_t tsb_feed_end(
     int32_t *TSB_RESTRICT out_xs, size_t out_xs_len,
     int32_t *TSB_RESTRICT out_ys, size_t out_ys_len,
     int32_t *TSB_RESTRICT clamps, size_t clamps_len,
-    uint32_t *TSB_RESTRICT degree, size_t *TSB_RESTRICT points, size_t *TSB_RESTRICT clamp_count,
-    size_t *TSB_RESTRICT place, size_t *TSB_RESTRICT received);
+    uint32_t *TSB_RESTRICT degree, size_t *TSB_RESTRICT points, uint32_t *TSB_RESTRICT radius,
+    size_t *TSB_RESTRICT clamp_count, size_t *TSB_RESTRICT place, size_t *TSB_RESTRICT received);
 
 #ifdef __cplusplus
 }
