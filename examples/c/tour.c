@@ -1,7 +1,7 @@
 /*
  * A tour of the library from C: the point on a curve, a knot inserted and removed, all knots removed that can go,
- * spline points joined by both calls, the spans that a clamp asks for, a record written and read back, records and jobs
- * that are broken, with the place where they break, jobs that come in bursts, and some refusals.
+ * spline points joined by both calls, the spans where a cutter may meet a clamp, a record written and read back, records
+ * and jobs that are broken, with the place where they break, jobs that come in bursts, and some refusals.
  * Build and run: examples/c/build.sh run
  */
 #include <stddef.h>
@@ -115,12 +115,13 @@ static void print_joined_by_both(const struct spline *s)
     print_point_at(&result, s->params[1]);
 }
 
-static void print_spans(const struct curve *c, int32_t low_x, int32_t high_x, int32_t low_y, int32_t high_y)
+static void print_spans(const struct curve *c, int32_t low_x, int32_t high_x, int32_t low_y, int32_t high_y, uint32_t radius)
 {
     uint16_t lows[TSB_POINTS_MOST], highs[TSB_POINTS_MOST];
     size_t count;
-    uint32_t refusal = tsb_spans(GIVEN(*c), low_x, high_x, low_y, high_y, lows, TSB_POINTS_MOST, highs, TSB_POINTS_MOST, &count);
-    printf("clamp x %d..%d y %d..%d:", (int)low_x, (int)high_x, (int)low_y, (int)high_y);
+    uint32_t refusal = tsb_spans(
+        GIVEN(*c), low_x, high_x, low_y, high_y, radius, lows, TSB_POINTS_MOST, highs, TSB_POINTS_MOST, &count);
+    printf("clamp x %d..%d y %d..%d, radius %u:", (int)low_x, (int)high_x, (int)low_y, (int)high_y, (unsigned)radius);
     if (refusal != TSB_OK)
         printf(" refused %u", (unsigned)refusal);
     else if (count == 0)
@@ -129,6 +130,18 @@ static void print_spans(const struct curve *c, int32_t low_x, int32_t high_x, in
         for (size_t i = 0; i < count; i++)
             printf(" may meet %u..%u", (unsigned)lows[i], (unsigned)highs[i]);
     printf("\n");
+}
+
+/* The spans where a cutter may meet a clamp, for cutters of some radius; radius 0 is the centre line. */
+static void print_clamps(const struct curve *c)
+{
+    print_spans(c, 2, 3, 5, 9, 0);
+    print_spans(c, 9, 12, 0, 4, 0);
+    print_spans(c, 9, 12, 0, 4, 1); /* the line ends at (8, 0): it misses this clamp, and a cutter of radius 1 does not */
+    print_spans(c, 8, 10, 8, 9, 0);
+    print_spans(c, -4000, -4000, -262144, 262144, 4096); /* no coordinate may lie where these sides are widened to */
+    print_spans(c, 3, 2, 5, 9, 0);
+    print_spans(c, 3, 2, 5, 9, 4097); /* both are wrong: the radius is judged first */
 }
 
 /* What a reader refused. A place is told with four numbers alone; with any other the caller's is as it was. */
@@ -175,24 +188,26 @@ static void print_written_and_read(const struct curve *c)
     print_record("with degree 4", length);
 }
 
+/* What a job holds beside its curve. */
+static uint32_t radius;
 static int32_t clamps[4 * TSB_CLAMPS_MOST];
 
-/* What reading a job of one clamp gave: the clamp is held against the curve. */
+/* What reading a job of one clamp gave: the clamp is held against the curve, with the job's own radius. */
 static void print_read_job(uint32_t refusal, size_t count, size_t place)
 {
     if (refusal != TSB_OK) {
         print_unread(refusal, place);
         return;
     }
-    printf(" %u clamp\n", (unsigned)count);
-    print_spans(&result, clamps[0], clamps[1], clamps[2], clamps[3]);
+    printf(" radius %u, %u clamp\n", (unsigned)radius, (unsigned)count);
+    print_spans(&result, clamps[0], clamps[1], clamps[2], clamps[3], radius);
 }
 
 static void print_job(const char *name, size_t length)
 {
     size_t count = 0, place = 0;
     uint32_t refusal = tsb_read_job(
-        bytes, length, PLACES(result), clamps, 4 * TSB_CLAMPS_MOST, &result.degree, &result.points, &count, &place);
+        bytes, length, PLACES(result), clamps, 4 * TSB_CLAMPS_MOST, &result.degree, &result.points, &radius, &count, &place);
     printf("%s:", name);
     print_read_job(refusal, count, place);
 }
@@ -228,32 +243,54 @@ static void print_fed(const char *name, size_t length)
         tsb_feed(burst, came, work, TSB_WORK_MOST, &received);
     }
     refusal = tsb_feed_end(
-        work, TSB_WORK_MOST, PLACES(result), clamps, 4 * TSB_CLAMPS_MOST, &result.degree, &result.points, &count, &place, &received);
+        work, TSB_WORK_MOST, PLACES(result), clamps, 4 * TSB_CLAMPS_MOST, &result.degree, &result.points, &radius, &count, &place,
+        &received);
     printf(":");
     print_read_job(refusal, count, place);
 }
 
-/* A curve's record with one clamp behind it: tag 5, length 16, and the four sides, low byte first. */
+static void print_radius_faults(size_t radius_at, size_t length)
+{
+    print_job("that ends before its radius", radius_at);
+    bytes[radius_at] = 5;
+    print_job("with tag 5 in place of 6", length);
+    bytes[radius_at] = 6;
+    bytes[radius_at + 1] = 1;
+    print_job("with a radius of one byte", length);
+    bytes[radius_at + 1] = 2;
+    bytes[radius_at + 4] = 16;
+    print_job("with radius 4097", length);
+    bytes[radius_at + 4] = 0;
+}
+
+static void print_clamp_faults(size_t clamp_at, size_t length)
+{
+    print_job("cut between the two bytes of the clamp's length", clamp_at + 2);
+    bytes[clamp_at + 1] = 12;
+    print_job("with a clamp of 12 bytes", length);
+    bytes[clamp_at] = 6;
+    print_job("with tag 6 in place of 5 besides", length);
+    bytes[clamp_at] = 5;
+    bytes[clamp_at + 1] = 16;
+}
+
+/* A curve's record, a radius (tag 6, length 2) and one clamp (tag 5, length 16, four sides); each number has its low byte first. */
 static void print_jobs(const struct curve *c)
 {
-    static const uint8_t clamp[] = {5, 16, 0, 2, 0, 0, 0, 3, 0, 0, 0, 5, 0, 0, 0, 9, 0, 0, 0};
-    size_t record, length;
+    static const uint8_t behind[] = {6, 2, 0, 1, 0, 5, 16, 0, 9, 0, 0, 0, 12, 0, 0, 0, 0, 0, 0, 0, 4, 0, 0, 0};
+    size_t record, clamp_at, length;
     tsb_write_record(GIVEN(*c), bytes, sizeof bytes, &record);
-    for (size_t i = 0; i < sizeof clamp; i++)
-        bytes[record + i] = clamp[i];
-    length = record + sizeof clamp;
+    for (size_t i = 0; i < sizeof behind; i++)
+        bytes[record + i] = behind[i];
+    clamp_at = record + 5;
+    length = record + sizeof behind;
     print_job("job", length);
-    print_job("cut between the two bytes of the clamp's length", record + 2);
-    bytes[record + 1] = 12;
-    print_job("with a clamp of 12 bytes", length);
-    bytes[record] = 6;
-    print_job("with tag 6 in place of 5 besides", length);
-    bytes[record] = 5;
-    bytes[record + 1] = 16;
+    print_radius_faults(record, length);
+    print_clamp_faults(clamp_at, length);
     print_fed("job", length);
-    bytes[record + 1] = 12;
+    bytes[clamp_at + 1] = 12;
     print_fed("with a clamp of 12 bytes", length);
-    bytes[record + 1] = 16;
+    bytes[clamp_at + 1] = 16;
     print_fed("next job", length);
 }
 
@@ -267,10 +304,7 @@ int main(void)
             print_point_at(&a, t);
     tsb_carrying(GIVEN(a), 4, &first);
     printf("carried at 4 by points %u to %u\n", (unsigned)first, (unsigned)(first + a.degree));
-    print_spans(&a, 2, 3, 5, 9);
-    print_spans(&a, 9, 12, 0, 4);
-    print_spans(&a, 8, 10, 8, 9);
-    print_spans(&a, 3, 2, 5, 9);
+    print_clamps(&a);
     print_written_and_read(&a);
     print_jobs(&a);
 
