@@ -14,7 +14,7 @@
 #include "plain.h"
 #include "tsaghnobir.h"
 
-enum { ROUNDS = 2000, DEGREE = 3, STEP = 6, PARAMETERS = 16, SIZES = 4, CLAMPS = 8, SPLITS = 7 };
+enum { ROUNDS = 2000, DEGREE = 3, STEP = 6, PARAMETERS = 16, SIZES = 4, RADIUS = 150, CLAMPS = 8, SPLITS = 7 };
 
 enum call { CHECK, POINT, CARRYING, SPANS, INSERT, JOIN, THROUGH, WRITE, READ, COMPACT, FEED, CALLS, BURSTS };
 
@@ -55,7 +55,7 @@ struct input {
 };
 
 struct output {
-    uint32_t refusal, degree;
+    uint32_t refusal, degree, radius;
     double x, y;
     size_t place, count;
     uint16_t knots[TSB_KNOTS_MOST], lows[TSB_POINTS_MOST], highs[TSB_POINTS_MOST];
@@ -79,7 +79,7 @@ static struct output by_library, by_plain;
 #define SPLINE \
     in.params, in.spline_points, in.px, in.spline_points, in.py, in.spline_points, in.tx, in.spline_points, in.ty, in.spline_points
 #define PLACES out->knots, TSB_KNOTS_MOST, out->xs, TSB_POINTS_MOST, out->ys, TSB_POINTS_MOST
-#define JOB_PLACES PLACES, out->clamps, 4 * TSB_CLAMPS_MOST, &out->degree, &out->count, &out->clamp_count, &out->place
+#define JOB_PLACES PLACES, out->clamps, 4 * TSB_CLAMPS_MOST, &out->degree, &out->count, &out->radius, &out->clamp_count, &out->place
 #define CLAMP -40000, 40000, -200000, 200000
 
 /* Functions that feed a job in one burst and tell its end, and that feed the longest in bursts, for each side. */
@@ -117,7 +117,7 @@ FEEDING(plain)
             case CHECK: refusal |= side##_check(GIVEN); break;                                                              \
             case POINT: refusal |= side##_point(GIVEN, in.ts[k % PARAMETERS], &out->x, &out->y); break;                     \
             case CARRYING: refusal |= side##_carrying(GIVEN, in.ts[k % PARAMETERS], &out->place); break;                    \
-            case SPANS: refusal |= side##_spans(GIVEN, CLAMP, out->lows, TSB_POINTS_MOST, out->highs, TSB_POINTS_MOST, &out->count); break; \
+            case SPANS: refusal |= side##_spans(GIVEN, CLAMP, RADIUS, out->lows, TSB_POINTS_MOST, out->highs, TSB_POINTS_MOST, &out->count); break; \
             case INSERT: refusal |= side##_insert(FOR_INSERTION, in.v, PLACES, &out->count); break;                         \
             case JOIN: refusal |= side##_join(SPLINE, PLACES, &out->count); break;                                          \
             case THROUGH: refusal |= side##_join_through_points(SPLINE, PLACES, &out->count); break;                        \
@@ -156,10 +156,13 @@ static void fill_knots(uint16_t *knots, size_t points)
     }
 }
 
-/* Clamps behind the record: a job. */
-static void put_clamps(size_t count)
+/* The cutter's radius and clamps behind the record: a job. */
+static void put_radius_and_clamps(size_t count)
 {
+    static const uint8_t radius[] = {6, 2, 0, RADIUS % 256, RADIUS / 256};
     uint8_t *at = in.bytes + in.length;
+    for (size_t b = 0; b < sizeof radius; b++)
+        *at++ = radius[b];
     for (size_t k = 0; k < count; k++) {
         int32_t side = 1000 * (int32_t)k, sides[] = {-side, side, side, 2 * side};
         *at++ = 5;
@@ -168,7 +171,7 @@ static void put_clamps(size_t count)
         for (size_t b = 0; b < 16; b++)
             *at++ = (uint8_t)((uint32_t)sides[b / 4] >> (8 * (b % 4)));
     }
-    in.job_length = in.length + 19 * count;
+    in.job_length = in.length + sizeof radius + 19 * count;
 }
 
 static void fill_input(size_t points)
@@ -199,7 +202,7 @@ static void fill_input(size_t points)
         in.ts[k] = STEP * spans * k / (PARAMETERS - 1);
     in.v = STEP * (spans / 2) + 2;
     plain_write_record(GIVEN, in.bytes, TSB_RECORD_MOST, &in.length);
-    put_clamps(CLAMPS);
+    put_radius_and_clamps(CLAMPS);
     in.work_length = TSB_WORK_MOST;
 }
 
@@ -328,7 +331,7 @@ static int print_bursts(void)
 {
     double library[SPLITS], plain[SPLITS];
 
-    put_clamps(TSB_CLAMPS_MOST);
+    put_radius_and_clamps(TSB_CLAMPS_MOST);
     if (!agree_on_long())
         return 0;
     printf("\nfeeding without the end: nanoseconds, proved library / plain C (ratio), and nanoseconds a burst\n bursts   bytes\n");

@@ -14,7 +14,7 @@
     uint16_t *restrict out_knots, size_t out_knots_len, int32_t *restrict out_xs, size_t out_xs_len, int32_t *restrict out_ys, size_t out_ys_len
 #define JOB                                                                                                  \
     LISTS, int32_t *restrict clamps, size_t clamps_len, uint32_t *restrict degree, size_t *restrict points, \
-        size_t *restrict clamp_count, size_t *restrict place
+        uint32_t *restrict radius, size_t *restrict clamp_count, size_t *restrict place
 
 uint32_t plain_check(CURVE);
 uint32_t plain_point(CURVE, uint32_t t, double *restrict x, double *restrict y);
@@ -24,7 +24,7 @@ uint32_t plain_compact(CURVE, LISTS, size_t *restrict points, size_t *restrict r
 uint32_t plain_join(SPLINE_POINTS, LISTS, size_t *restrict points);
 uint32_t plain_join_through_points(SPLINE_POINTS, LISTS, size_t *restrict points);
 uint32_t plain_spans(
-    CURVE, int32_t low_x, int32_t high_x, int32_t low_y, int32_t high_y,
+    CURVE, int32_t low_x, int32_t high_x, int32_t low_y, int32_t high_y, uint32_t radius,
     uint16_t *restrict lows, size_t lows_len, uint16_t *restrict highs, size_t highs_len, size_t *restrict count);
 uint32_t plain_write_record(CURVE, uint8_t *restrict out, size_t out_len, size_t *restrict length);
 uint32_t plain_read_record(

@@ -1,5 +1,5 @@
 /*
- * Checking a curve, its point and carrying points, and the spans that may meet a clamp, written plainly. The loops of the check run to
+ * Checking a curve, its point and carrying points, and the spans where a cutter may meet a clamp, written plainly. The loops of the check run to
  * their end, as those of the library do, so that a compiler can make the same vector code of both.
  */
 #include "plain.h"
@@ -127,12 +127,14 @@ static int meets(const int32_t *zs, size_t count, int32_t low, int32_t high)
 }
 
 uint32_t plain_spans(
-    CURVE, int32_t low_x, int32_t high_x, int32_t low_y, int32_t high_y,
+    CURVE, int32_t low_x, int32_t high_x, int32_t low_y, int32_t high_y, uint32_t radius,
     uint16_t *restrict lows, size_t lows_len, uint16_t *restrict highs, size_t highs_len, size_t *restrict count)
 {
     uint32_t refusal = plain_check(degree, knots, knots_len, xs, xs_len, ys, ys_len);
     if (refusal != TSB_OK)
         return refusal;
+    if (radius > TSB_RADIUS_MOST)
+        return TSB_RADIUS;
     if (low_x > high_x || low_y > high_y || !on_grid(low_x) || !on_grid(high_x) || !on_grid(low_y) || !on_grid(high_y))
         return TSB_RECTANGLE;
     size_t m = degree, places = 0;
@@ -141,9 +143,10 @@ uint32_t plain_spans(
             places++;
     if (lows_len < places || highs_len < places)
         return TSB_ROOM;
+    int32_t r = (int32_t)radius;
     size_t at = 0;
     for (size_t i = m; i < xs_len; i++)
-        if (knots[i] < knots[i + 1] && meets(xs + i - m, m + 1, low_x, high_x) && meets(ys + i - m, m + 1, low_y, high_y)) {
+        if (knots[i] < knots[i + 1] && meets(xs + i - m, m + 1, low_x - r, high_x + r) && meets(ys + i - m, m + 1, low_y - r, high_y + r)) {
             lows[at] = knots[i];
             highs[at] = knots[i + 1];
             at++;

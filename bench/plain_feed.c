@@ -27,5 +27,5 @@ uint32_t plain_feed_end(const uint8_t *work, size_t work_len, JOB, size_t *restr
     *received = 0;
     return plain_read_job(
         work, length, out_knots, out_knots_len, out_xs, out_xs_len, out_ys, out_ys_len, clamps, clamps_len, degree, points,
-        clamp_count, place);
+        radius, clamp_count, place);
 }

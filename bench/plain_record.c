@@ -180,20 +180,27 @@ static int all_rectangles(const int32_t *sides, size_t count)
 uint32_t plain_read_job(const uint8_t *bytes, size_t bytes_len, JOB)
 {
     struct layout at;
-    size_t count;
+    size_t two, count;
     uint32_t broken = record_layout(bytes, bytes_len, &at, place);
     if (broken != TSB_OK)
         return broken;
-    broken = clamps_behind(bytes, bytes_len, at.end, &count, place);
+    broken = field(bytes, bytes_len, at.end, 6, 2, 2, 2, &two, place);
+    if (broken != TSB_OK)
+        return broken;
+    size_t clamps_at = at.end + 3 + 2;
+    broken = clamps_behind(bytes, bytes_len, clamps_at, &count, place);
     if (broken != TSB_OK)
         return broken;
     struct work w;
     uint32_t refusal = get_curve(bytes, &at, &w);
     if (refusal != TSB_OK)
         return refusal;
+    uint32_t steps = bytes[at.end + 3] + 256 * (uint32_t)bytes[at.end + 4];
+    if (steps > TSB_RADIUS_MOST)
+        return TSB_RADIUS;
     int32_t sides[4 * TSB_CLAMPS_MOST];
     for (size_t k = 0; k < count; k++)
-        get_coordinates(bytes + at.end + 19 * k + 3, 4, sides + 4 * k);
+        get_coordinates(bytes + clamps_at + 19 * k + 3, 4, sides + 4 * k);
     if (!all_rectangles(sides, count))
         return TSB_RECTANGLE;
     if (out_knots_len < at.knots || out_xs_len < at.xs || out_ys_len < at.ys || clamps_len < 4 * count)
@@ -203,6 +210,7 @@ uint32_t plain_read_job(const uint8_t *bytes, size_t bytes_len, JOB)
         clamps[k] = sides[k];
     *degree = bytes[3];
     *points = at.xs;
+    *radius = steps;
     *clamp_count = count;
     return TSB_OK;
 }
