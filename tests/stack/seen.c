@@ -42,17 +42,19 @@ SEEN(tsb_read_job)
 SEEN(tsb_feed)
 SEEN(tsb_feed_end)
 
-/* a cubic on a straight line with simple inner knots, its record and places for results */
+/* a cubic on a straight line with simple inner knots, its record and job and places for results */
 static uint16_t knots[KNOTS], out_knots[KNOTS], lows[POINTS], highs[POINTS];
 static int32_t xs[POINTS], ys[POINTS], out_xs[POINTS], out_ys[POINTS], clamps[TSB_CLAMPS_MOST * 4], tangents[JOINED];
 static uint8_t bytes[TSB_WORK_MOST], work[TSB_WORK_MOST];
 static size_t points, removed, length, place, clamp_count, received, first, count;
-static uint32_t degree;
+static uint32_t degree, radius;
 static double x, y;
 static size_t number_of_points;
+static const uint8_t radius_field[] = {6, 2, 0, 150, 0};
 
 #define CURVE 3, knots, number_of_points + 4, xs, number_of_points, ys, number_of_points
 #define OUT out_knots, KNOTS, out_xs, POINTS, out_ys, POINTS
+#define JOB OUT, clamps, TSB_CLAMPS_MOST * 4, &degree, &points, &radius, &clamp_count, &place
 #define SPLINE knots + 3, JOINED, xs, JOINED, ys, JOINED, tangents, JOINED, tangents, JOINED
 
 static uint32_t check(void) { return seen_tsb_check(CURVE); }
@@ -61,15 +63,12 @@ static uint32_t carrying(void) { return seen_tsb_carrying(CURVE, 1, &first); }
 static uint32_t insert(void) { return seen_tsb_insert(CURVE, 3, OUT, &points); }
 static uint32_t remove_one(void) { return seen_tsb_remove(CURVE, 6, OUT, &points); }
 static uint32_t compact(void) { return seen_tsb_compact(CURVE, OUT, &points, &removed); }
-static uint32_t spans(void) { return seen_tsb_spans(CURVE, -9, 9000, -9, 9000, lows, POINTS, highs, POINTS, &count); }
+static uint32_t spans(void) { return seen_tsb_spans(CURVE, -9, 9000, -9, 9000, 150, lows, POINTS, highs, POINTS, &count); }
 static uint32_t write_record(void) { return seen_tsb_write_record(CURVE, bytes, sizeof bytes, &length); }
 static uint32_t read_record(void) { return seen_tsb_read_record(bytes, length, OUT, &degree, &points, &place); }
-static uint32_t read_job(void) { return seen_tsb_read_job(bytes, length, OUT, clamps, TSB_CLAMPS_MOST * 4, &degree, &points, &clamp_count, &place); }
-static uint32_t feed(void) { return seen_tsb_feed(bytes, length, work, sizeof work, &received); }
-static uint32_t feed_end(void)
-{
-    return seen_tsb_feed_end(work, sizeof work, OUT, clamps, TSB_CLAMPS_MOST * 4, &degree, &points, &clamp_count, &place, &received);
-}
+static uint32_t read_job(void) { return seen_tsb_read_job(bytes, length + sizeof radius_field, JOB); }
+static uint32_t feed(void) { return seen_tsb_feed(bytes, length + sizeof radius_field, work, sizeof work, &received); }
+static uint32_t feed_end(void) { return seen_tsb_feed_end(work, sizeof work, JOB, &received); }
 static uint32_t join(void) { return seen_tsb_join(SPLINE, OUT, &points); }
 static uint32_t join_through_points(void) { return seen_tsb_join_through_points(SPLINE, OUT, &points); }
 
@@ -115,6 +114,13 @@ static void make_curve(size_t many)
         knots[j] = (uint16_t)(j <= 3 ? 0 : j >= many ? 6 * (many - 3) : 6 * (j - 3));
 }
 
+/* A radius behind the record that was written: a job without clamps. The record alone would be refused before the reader goes deep. */
+static void make_job(void)
+{
+    for (size_t k = 0; k < sizeof radius_field; k++)
+        bytes[length + k] = radius_field[k];
+}
+
 int main(void)
 {
     for (size_t many = 4; many <= POINTS; many *= 4) {
@@ -127,6 +133,7 @@ int main(void)
         seen("tsb_compact", compact);
         seen("tsb_spans", spans);
         seen("tsb_write_record", write_record);
+        make_job();
         seen("tsb_read_record", read_record);
         seen("tsb_read_job", read_job);
         seen("tsb_feed", feed);
