@@ -139,7 +139,7 @@ static void print_clamps(const struct curve *c)
     print_spans(c, 9, 12, 0, 4, 0);
     print_spans(c, 9, 12, 0, 4, 1); /* the line ends at (8, 0): it misses this clamp, and a cutter of radius 1 does not */
     print_spans(c, 8, 10, 8, 9, 0);
-    print_spans(c, -4000, -4000, -262144, 262144, 4096); /* no coordinate may lie where these sides are widened to */
+    print_spans(c, -4000, -4000, -262144, 262144, 4096); /* widened, its y sides pass +-262144 */
     print_spans(c, 3, 2, 5, 9, 0);
     print_spans(c, 3, 2, 5, 9, 4097); /* both are wrong: the radius is judged first */
 }
