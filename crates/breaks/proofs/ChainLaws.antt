@@ -40,7 +40,7 @@ pub record RecordAhead (P : List ℕ → Type 0) (bytes : List ℕ) : Type 0 whe
   pub same : bytes ≡ recordBytes form1 m c ++ rest
   pub behind : P rest
 
-octets-pair : (v : ℕ) → Octets (u16Bytes v)
+pub octets-pair : (v : ℕ) → Octets (u16Bytes v)
 octets-pair v zero = omega arith
 octets-pair v (suc zero) = omega arith
 octets-pair v (suc (suc i)) = omega arith

@@ -1,12 +1,15 @@
-// Reads a job: a curve's record, and the clamps behind it.
+// Reads a job: a curve's record, and behind it the cutter's radius and the clamps.
 mod sound;
 
 use clamps::Tail;
 use layout::Layout;
 use taken_field::Break;
+use taken_field::Taken;
 ghost use mathlib.Core.Path.{_≡_};
+ghost use Prim.Native.Nat.{_≤_};
 ghost use Rattle.curve.specs.Lists.{lists};
-ghost use Rattle.job.specs.JobJudging.{jobLayout};
+ghost use Rattle.grid.specs.Limits.{knotBytesMost, coordinateBytesMost};
+ghost use Rattle.job.specs.JobJudging.{behindRecord, jobLayout};
 ghost use Rattle.job.specs.JobReading.{JobJudged, JobRead};
 
 // The lengths of a job's fields of knots, x and y, and the number of its clamps. Or why there is no job.
@@ -26,12 +29,13 @@ pub enum Judged {
     Broken(Break),
 }
 
-// Degree, number of points and number of clamps of a job that was read. Or where the bytes break, with the number of refusal and the place; or
+// Degree, number of points, radius and number of clamps of a job that was read. Or where the bytes break, with the number of refusal and the place; or
 // the number alone.
 pub enum JobAnswer {
     Job {
         degree: u32,
         points: usize,
+        radius: u32,
         clamps: usize,
     },
     Broken {
@@ -41,15 +45,14 @@ pub enum JobAnswer {
     Refused(u32),
 }
 
-// Judges the whole job.
-pub(crate) fn job_layout(bytes: &[u8]) -> JobLayout
-    ensures answer { λ r. ⌜ r ≡ jobLayout (now (bytes .entry)) ⌝ }
+// Judges what stands behind a record with fields of these lengths: the radius, and then the clamps.
+fn behind_record(bytes: &[u8], knots: usize, xs: usize, ys: usize) -> JobLayout
+    requires { ⌜ (knots ≤ knotBytesMost) × (xs ≤ coordinateBytesMost) × (ys ≤ coordinateBytesMost) ⌝ }
+    ensures answer { λ r. ⌜ r ≡ behindRecord (now (bytes .entry)) knots xs ys ⌝ }
 {
-    match layout::record_layout(bytes) {
-        Layout::Sound { knots, xs, ys } => match clamps::clamps_behind(
-            bytes,
-            format::BEFORE_Y + knots + xs + ys,
-        ) {
+    let end = format::BEFORE_Y + knots + xs + ys;
+    match cutter::take_radius(bytes, end) {
+        Taken::Field(_) => match clamps::clamps_behind(bytes, end + cutter::RADIUS_FIELD_BYTES) {
             Tail::Clamps(count) => JobLayout::Sound {
                 knots,
                 xs,
@@ -58,6 +61,16 @@ pub(crate) fn job_layout(bytes: &[u8]) -> JobLayout
             },
             Tail::Broken(fault) => JobLayout::Broken(fault),
         },
+        Taken::Broken(fault) => JobLayout::Broken(fault),
+    }
+}
+
+// Judges the whole job.
+pub(crate) fn job_layout(bytes: &[u8]) -> JobLayout
+    ensures answer { λ r. ⌜ r ≡ jobLayout (now (bytes .entry)) ⌝ }
+{
+    match layout::record_layout(bytes) {
+        Layout::Sound { knots, xs, ys } => behind_record(bytes, knots, xs, ys),
         Layout::Broken(fault) => JobLayout::Broken(fault),
     }
 }

@@ -6,14 +6,13 @@ use lib.ListN.{length}
 use Rattle.curve.specs.Lists.{lists}
 use Rattle.fields.specs.Bytes.{Octets}
 use Rattle.fields.proofs.PlaceLaws.{length-entriesAt}
-use Rattle.format.specs.RecordPlaces.{recordEnd}
 use Rattle.layout.specs.StoredCurve.{degreeIn, curveIn}
 use Rattle.layout.proofs.StoredLaws.{stored-xs}
 use Rattle.clamps.specs.Clamp.{clampFieldBytes, clampAt}
 use Rattle.fault.specs.Verdict.{judged}
-use Rattle.job.specs.JobJudging.{jobLayout}
+use Rattle.job.specs.JobJudging.{clampsStart, jobLayout}
 use Rattle.job.specs.JobReading.{isJob}
-use Rattle.job.specs.StoredJob.{clampsIn, storedNumber}
+use Rattle.job.specs.StoredJob.{radiusIn, clampsIn, storedNumber}
 use Rattle.job.specs.declared.JobLayout.the-variants.{Sound}
 use Rattle.job.proofs.JobReadLaws.{job-counted, broken-read}
 use Rattle.job.proofs.JobLayoutLaws.{job-joined, job-run, job-few, job-of-sound}
@@ -72,11 +71,12 @@ returns c =
       verdict = judged number;
       m = degreeIn bytes;
       c = curveIn bytes k x y;
+      radius = radiusIn bytes k x y;
       cs = clampsIn bytes k x y n;
       comesTo = isJob (job-of-sound bytes (octetsIn (c .before .before .before .before .before .before .before .before .before .before .before .before .before .before .before)) k x y n (sound (c .before .before .before .before .before .before .before .before .before .before)));
       answers =
-          job-counted _ (judged number) (degreeIn bytes) (x / 4) n _ _ (read .answers) (stored-xs bytes k x y)
-          (length-entriesAt (clampAt bytes) clampFieldBytes (recordEnd k x y) n);
+          job-counted _ (judged number) (degreeIn bytes) (x / 4) (radiusIn bytes k x y) n _ _ (read .answers) (stored-xs bytes k x y)
+          (length-entriesAt (clampAt bytes) clampFieldBytes (clampsStart k x y) n);
       hands = read .hands;
       clampsNow = read .clampsNow;
     }

@@ -1,0 +1,3 @@
+-- Laws of the radius' field.
+pub mod FieldLaws
+pub mod Controls
