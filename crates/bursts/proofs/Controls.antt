@@ -9,7 +9,7 @@ use lib.ListN.{length, take, drop}
 use Rattle.grid.specs.Limits.{jobMost}
 use Rattle.curve.specs.Lists.{Lists, lists}
 use Rattle.curve.specs.HandingOver.{enough}
-use Rattle.grid.specs.Rows.{degreeOk, pointCountOk, knotCountOk, risesFrom, knotOrderOk, allAre, endsOk, occurrences, repeatsMost, repeatsWithin, repeatsOk, onGrid, allOnGrid, rangeOk, axisOk, rectangleOk}
+use Rattle.grid.specs.Rows.{degreeOk, pointCountOk, knotCountOk, risesFrom, knotOrderOk, allAre, endsOk, occurrences, repeatsMost, repeatsWithin, repeatsOk, onGrid, allOnGrid, rangeOk, axisOk, rectangleOk, radiusOk}
 use Rattle.grid.specs.Check.{checkedThen}
 use Rattle.format.specs.Format.{form1, recordBytes}
 use Rattle.format.proofs.Controls.{curveA}
@@ -21,7 +21,7 @@ use Rattle.fault.specs.Verdict.{judged}
 use Rattle.fault.specs.Fault.{Fault}
 use Rattle.fault.proofs.FirstFieldLaws.{octets-by}
 use Rattle.job.specs.JobFormat.{IsJob, jobBytes, jobs}
-use Rattle.job.specs.JobJudging.{jobLayout}
+use Rattle.job.specs.JobJudging.{behindRecord, jobLayout}
 use Rattle.job.specs.JobReading.{jobNumber, isJob, JobRead}
 use Rattle.job.specs.declared.JobAnswer.the-variants.{Job, Broken}
 use Rattle.job.proofs.JobFaultLaws.{job-fault, job-left-over}
@@ -45,20 +45,20 @@ module _ (work : List ℕ) (long : jobMost ≤ length work) (before : Lists) (si
 
   -- 16 at 0
   nothing-fed : Ends ([] ∷ [] ∷ []) → r .answer ≡ Broken 16 0
-  unfolding jobLayout recordLayout fieldAt lengthOk clampsFrom
+  unfolding jobLayout behindRecord recordLayout fieldAt lengthOk clampsFrom
   nothing-fed ends = fault-told ([] ∷ [] ∷ []) ends (job-fault [] (octets-by [] refl) (endedAt 0) refl)
 
   -- and so it does end: the contract's words hold of this outcome
   nothing-ends : FeedEnds fresh work before sides (record { answer = Broken 16 0; state = fresh }) before sides
-  unfolding jobLayout recordLayout fieldAt lengthOk clampsFrom
+  unfolding jobLayout behindRecord recordLayout fieldAt lengthOk clampsFrom
   nothing-ends = told long (Broken 16 0) before sides read
     where
       read : (bytes : List ℕ) → Holds 0 work bytes → JobRead bytes before sides (Broken 16 0) before sides
       read bytes (whole inside) = broken-read [] before sides (job-fault [] (octets-by [] refl) (endedAt 0) refl)
       read bytes (beyond more b lost) = absurd (omega arith)
 
-  -- 21 at 11,477, whatever the byte is
-  one-byte-too-many : (job : List ℕ) (b : ℕ) → IsJob form1 job → length job ≡ jobMost → Ends (job ∷ (b ∷ []) ∷ []) → r .answer ≡ Broken 21 11477
+  -- 21 at 11,482, whatever the byte is
+  one-byte-too-many : (job : List ℕ) (b : ℕ) → IsJob form1 job → length job ≡ jobMost → Ends (job ∷ (b ∷ []) ∷ []) → r .answer ≡ Broken 21 11482
   one-byte-too-many job b w full ends = fault-told (job ∷ (b ∷ []) ∷ []) ends (job-left-over job b [] (omega arith) w)
 
 -- three bursts, with lists that have just the places
@@ -75,13 +75,14 @@ places = lists (0 ∷ 0 ∷ 0 ∷ 0 ∷ 0 ∷ 0 ∷ 0 ∷ 0 ∷ []) (pos 0 ∷ p
 abbrev sidePlaces : List ℤ
 sidePlaces = pos 0 ∷ pos 0 ∷ pos 0 ∷ pos 0 ∷ pos 0 ∷ pos 0 ∷ pos 0 ∷ pos 0 ∷ pos 0 ∷ pos 0 ∷ pos 0 ∷ pos 0 ∷ []
 
-jobA-read : JobRead jobA places sidePlaces (Job 3 4 3) curveA (allSides clampsA)
-unfolding jobNumber enough clampsOk rectangleOk axisOk checkedThen degreeOk pointCountOk knotCountOk risesFrom knotOrderOk allAre endsOk occurrences repeatsMost repeatsWithin repeatsOk onGrid allOnGrid rangeOk jobA jobBytes recordBytes curveA clampsA
+jobA-read : JobRead jobA places sidePlaces (Job 3 4 0 3) curveA (allSides clampsA)
+unfolding jobNumber enough clampsOk rectangleOk axisOk radiusOk checkedThen degreeOk pointCountOk knotCountOk risesFrom knotOrderOk allAre endsOk occurrences repeatsMost repeatsWithin repeatsOk onGrid allOnGrid rangeOk jobA jobBytes recordBytes curveA clampsA
 jobA-read =
     record {
       verdict = judged 0;
       m = 3;
       c = curveA;
+      radius = 0;
       cs = clampsA;
       comesTo = isJob (job-of-sound jobA (octets-by jobA refl) 16 16 16 3 sound-A);
       answers = refl;
@@ -89,12 +90,12 @@ jobA-read =
       clampsNow = refl;
     }
 
--- degree 3, four points and three clamps; the curve and its clamps in the lists, and the state fresh
+-- degree 3, four points, radius 0 and three clamps; the curve and its clamps in the lists, and the state fresh
 worked-job-fed : (work : List ℕ) → jobMost ≤ length work → (r : EndAnswer) (now : Lists) (sidesNow : List ℤ)
     → FeedEnds (fedAll fresh work three .0) (fedAll fresh work three .1) places sidePlaces r now sidesNow
-    → (r .answer ≡ Job 3 4 3) × (now ≡ curveA) × (sidesNow ≡ allSides clampsA) × (r .state ≡ fresh)
+    → (r .answer ≡ Job 3 4 0 3) × (now ≡ curveA) × (sidesNow ≡ allSides clampsA) × (r .state ≡ fresh)
 worked-job-fed work long r now sidesNow ends =
     let read = fed-reads-as-joined work long three places sidePlaces r now sidesNow ends in
-    let same = job-reading-determined jobA places sidePlaces (r .answer) (Job 3 4 3) now curveA sidesNow (allSides clampsA)
+    let same = job-reading-determined jobA places sidePlaces (r .answer) (Job 3 4 0 3) now curveA sidesNow (allSides clampsA)
     (subst (λ (bytes : List ℕ). JobRead bytes places sidePlaces (r .answer) now sidesNow) three-joined (read .0)) jobA-read in
     (same .0, same .1, same .2, read .1)

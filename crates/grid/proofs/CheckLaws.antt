@@ -5,7 +5,7 @@ use mathlib.Core.Path.{_≡_, refl}
 use Prim.Native.Nat.{ℕ, _≤_}
 use lib.Dec.{eqb, lit≤}
 use lib.IntN.{ℤ}
-use Rattle.refusal.proofs.JudgingLaws.{unless-accepted, unless-split, unless-most}
+use Rattle.refusal.proofs.JudgingLaws.{unless-accepted, unless-split, unless-all}
 use Rattle.refusal.specs.Numbers.{accepted, degreeRefused, pointCountRefused, knotCountRefused, knotOrderRefused, endsRefused, repeatsRefused, rangeRefused}
 use Rattle.grid.specs.Rows.{degreeOk, pointCountOk, knotCountOk, knotOrderOk, endsOk, repeatsOk, rangeOk}
 use Rattle.grid.specs.Check.{checkedThen, checkNumber, Passes}
@@ -74,17 +74,20 @@ module _ (m : ℕ) (ts : List ℕ) (xs ys : List ℤ) where
       (unless-split (repeatsOk m ts) 5 next _ _
       (unless-split (rangeOk xs ys) 6 next next 0 refl))))))
 
+  abbrev few : ℕ → Type 0
+  few n = n ≤ rangeRefused
+
   -- the answer is 0 or one of 1 to 7
   pub checkNumber-most : checkNumber m ts xs ys ≤ rangeRefused
   unfolding checkNumber checkedThen
   checkNumber-most =
-      unless-most (degreeOk m) 1 _ 7 (lit≤ tt)
-      (unless-most (pointCountOk m xs ys) 2 _ 7 (lit≤ tt)
-      (unless-most (knotCountOk m ts xs) 3 _ 7 (lit≤ tt)
-      (unless-most (knotOrderOk ts) 4 _ 7 (lit≤ tt)
-      (unless-most (endsOk m ts) 5 _ 7 (lit≤ tt)
-      (unless-most (repeatsOk m ts) 6 _ 7 (lit≤ tt)
-      (unless-most (rangeOk xs ys) 7 0 7 (lit≤ tt) (lit≤ tt)))))))
+      unless-all few (degreeOk m) 1 _ (lit≤ tt)
+      (unless-all few (pointCountOk m xs ys) 2 _ (lit≤ tt)
+      (unless-all few (knotCountOk m ts xs) 3 _ (lit≤ tt)
+      (unless-all few (knotOrderOk ts) 4 _ (lit≤ tt)
+      (unless-all few (endsOk m ts) 5 _ (lit≤ tt)
+      (unless-all few (repeatsOk m ts) 6 _ (lit≤ tt)
+      (unless-all few (rangeOk xs ys) 7 0 (lit≤ tt) (lit≤ tt)))))))
 
   -- what every test says where the check refuses nothing
   pub passes-tests : Passes m ts xs ys → TestsPass m ts xs ys

@@ -1,7 +1,7 @@
 -- What an answer says of the test that was judged first.
 use mathlib.Core.Bool.{Bool, true, false, not, cond, _&&_, and-eq-true-iff}
 use mathlib.Core.Path.{_≡_, refl, sym, _∙_}
-use Prim.Native.Nat.{ℕ, suc, _≤_}
+use Prim.Native.Nat.{ℕ, suc}
 use lib.Dec.{eqb, eqb·suc-zero}
 use borrow.Author.Tests.{not-true, not-false, ne-eqb}
 use native.Mathlib.Omega.{arith}
@@ -26,10 +26,10 @@ pub unless-split : (ok : Bool) (n next whole alone : ℕ) → whole ≡ cond (eq
 unless-split true n next whole alone h = h
 unless-split false n next whole alone h = rw (eqb·suc-zero n)
 
--- a number that bounds both bounds the answer
-pub unless-most : (ok : Bool) (n next most : ℕ) → n ≤ most → next ≤ most → unless ok n next ≤ most
-unless-most true n next most h k = k
-unless-most false n next most h k = h
+-- what holds of both numbers holds of the answer
+pub unless-all : (P : ℕ → Type 0) (ok : Bool) (n next : ℕ) → P n → P next → P (unless ok n next)
+unless-all P true n next h k = k
+unless-all P false n next h k = h
 
 -- two tests that both pass, each for itself
 pub both : (a b : Bool) → (a && b) ≡ true → (a ≡ true) × (b ≡ true)

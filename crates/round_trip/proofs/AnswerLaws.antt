@@ -1,4 +1,4 @@
--- What an answer says of the number behind it, and how large a number can be.
+-- What an answer says of the number behind it, and what holds of every number that can be.
 use mathlib.Core.Bool.{Bool, true, false, cond}
 use mathlib.Core.Path.{_≡_, refl, sym, _∙_}
 use mathlib.Core.List.{List}
@@ -8,7 +8,7 @@ use lib.Dec.{eqb}
 use lib.IntN.{ℤ}
 use borrow.Author.Tests.{eqb-true, eqb-false}
 use Rattle.refusal.specs.Judging.{answered}
-use Rattle.refusal.specs.Numbers.{roomRefused}
+use Rattle.refusal.specs.Numbers.{rangeRefused}
 use Rattle.grid.specs.Check.{checkNumber, checkedThen}
 use Rattle.grid.proofs.CheckLaws.{checkedThen-split, checkNumber-most}
 
@@ -18,18 +18,19 @@ module _ (chk next : ℕ) where
   split-zero true t e = (eqb-true chk 0 t, e)
   split-zero false t e = absurd (eqb-false chk 0 t e)
 
-  split-most : (b : Bool) → chk ≤ 7 → next ≤ roomRefused → cond b next chk ≤ roomRefused
-  split-most true h k = k
-  split-most false h k = omega arith
+  split-all : (P : ℕ → Type 0) (b : Bool) → P chk → P next → P (cond b next chk)
+  split-all P true h k = k
+  split-all P false h k = h
 
 module _ (m : ℕ) (ts : List ℕ) (xs ys : List ℤ) (next : ℕ) where
   pub checkedThen-zero : checkedThen m ts xs ys next ≡ 0 → (checkNumber m ts xs ys ≡ 0) × (next ≡ 0)
   checkedThen-zero e = split-zero (checkNumber m ts xs ys) next (eqb (checkNumber m ts xs ys) 0) refl (sym (checkedThen-split m ts xs ys next) ∙ e)
 
-  pub checkedThen-most : next ≤ roomRefused → checkedThen m ts xs ys next ≤ roomRefused
-  checkedThen-most h =
+  -- what holds of 0 to 7 and of what is judged next holds of the answer
+  pub checkedThen-all : (P : ℕ → Type 0) → ((n : ℕ) → n ≤ rangeRefused → P n) → P next → P (checkedThen m ts xs ys next)
+  checkedThen-all P low h =
       rw (checkedThen-split m ts xs ys next)
-      (split-most (checkNumber m ts xs ys) next (eqb (checkNumber m ts xs ys) 0) (checkNumber-most m ts xs ys) h)
+      (split-all (checkNumber m ts xs ys) next P (eqb (checkNumber m ts xs ys) 0) (low (checkNumber m ts xs ys) (checkNumber-most m ts xs ys)) h)
 
 module _ {A B : Type 0} (done : B → A) (refused : ℕ → A) where
   -- an answer that is no refusal is the value, and nothing was refused

@@ -9,7 +9,7 @@ use lib.Dec.{lit≤}
 use lib.ListN.{length}
 use Rattle.lent.specs.Lent.{over, after}
 use Rattle.refusal.specs.Numbers.{roomRefused}
-use Rattle.refusal.proofs.JudgingLaws.{unless-most}
+use Rattle.refusal.proofs.JudgingLaws.{unless-all}
 use Rattle.curve.specs.HandingOver.{roomFor, handedOver}
 use Rattle.curve.specs.Lists.{Lists}
 use Rattle.curve.proofs.ListLaws.{lists-same, same-knots, same-xs, same-ys}
@@ -31,7 +31,7 @@ use Rattle.record.specs.declared.WriteAnswer.the-variants.{Written}
 use Rattle.record.specs.declared.ReadAnswer.the-variants.{Curve, Broken, Refused}
 use Rattle.record.proofs.WriteLaws.{write-done}
 use Rattle.round_trip.specs.RoundTrip.{frontOf, WrittenReadsBack, ReadWritesBack, OneRecordForEachCurve, FaultsExactly, ReadingDetermined, RecordsShort}
-use Rattle.round_trip.proofs.AnswerLaws.{checkedThen-zero, checkedThen-most, answered-value, answered-other}
+use Rattle.round_trip.proofs.AnswerLaws.{checkedThen-zero, checkedThen-all, answered-value, answered-other}
 use Rattle.round_trip.proofs.StorableLaws.{passes-storable}
 
 -- a curve is no refusal
@@ -127,7 +127,8 @@ one-record-for-each-curve bytes others before lent m n now then p q same =
 
 pub number-most : (m : ℕ) (c before : Lists) → recordNumber m c before ≤ roomRefused
 unfolding recordNumber
-number-most m c before = checkedThen-most m (c .knots) (c .xs) (c .ys) _ (unless-most (roomFor c before) roomRefused 0 roomRefused (lit≤ tt) (lit≤ tt))
+number-most m c before =
+    checkedThen-all m (c .knots) (c .xs) (c .ys) _ (λ n. n ≤ roomRefused) (λ n h. omega arith) (unless-all (λ n. n ≤ roomRefused) (roomFor c before) roomRefused 0 (lit≤ tt) (lit≤ tt))
 
 faults-by : {bytes : List ℕ} {before : Lists} {verdict : Verdict} {m : ℕ} {c : Lists} (number place : ℕ) → RecordComesTo bytes before verdict m c
     → (readAnswer verdict m (length (c .xs)) ≡ Broken number place) ↔ Fault loneRecords bytes number place

@@ -62,22 +62,22 @@ ReadingDetermined =
     (bytes : List ℕ) (before : Lists) (answer other : ReadAnswer) (now then : Lists)
     → RecordRead bytes before answer now → RecordRead bytes before other then → (answer ≡ other) × (now ≡ then)
 
--- no record has more than 10,261 bytes, and no job more than 11,477
+-- no record has more than 10,261 bytes, and no job more than 11,482
 abbrev pub RecordsShort : Type 0
 RecordsShort = (bytes : List ℕ) → IsRecord form1 bytes → length bytes ≤ recordMost
 
 abbrev pub JobsShort : Type 0
 JobsShort = (bytes : List ℕ) → IsJob form1 bytes → length bytes ≤ jobMost
 
--- reading the job of some lists and clamps reads these
+-- reading the job of some lists, radius and clamps reads these
 abbrev pub JobReadsBack : Type 0
 JobReadsBack =
-    (m : ℕ) (c : Lists) (cs : List Clamp) → StorableJob form1 m c cs
+    (m : ℕ) (c : Lists) (radius : ℕ) (cs : List Clamp) → StorableJob form1 m c radius cs
     → (before : Lists) (sidesBefore : List ℤ) (answer : JobAnswer) (now : Lists) (sidesNow : List ℤ)
-    → JobRead (jobBytes form1 m c cs) before sidesBefore answer now sidesNow
-    → (answer ≡ jobAnswer (judged (jobNumber m c cs before (length sidesBefore))) m (length (c .xs)) (length cs))
-    × (now ≡ handedOver (jobNumber m c cs before (length sidesBefore)) c before)
-    × (sidesNow ≡ after (jobNumber m c cs before (length sidesBefore)) (allSides cs) sidesBefore)
+    → JobRead (jobBytes form1 m c radius cs) before sidesBefore answer now sidesNow
+    → (answer ≡ jobAnswer (judged (jobNumber m c radius cs before (length sidesBefore))) m (length (c .xs)) radius (length cs))
+    × (now ≡ handedOver (jobNumber m c radius cs before (length sidesBefore)) c before)
+    × (sidesNow ≡ after (jobNumber m c radius cs before (length sidesBefore)) (allSides cs) sidesBefore)
 
 -- reading a job tells a fault exactly where it is the bytes' leftmost one
 abbrev pub JobFaultsExactly : Type 0
