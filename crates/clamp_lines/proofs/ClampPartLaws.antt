@@ -30,23 +30,23 @@ told-empty m c text e = by (eqb (checkNumber m (c .knots) (c .xs) (c .ys)) 0)
     by true = e
     by false = refl
 
-module _ (m : ℕ) (c : Lists) (count : ℕ) (sides : List ℤ) (k : ℕ) where
-  no-clamp : standing count sides k ≡ false → whereChecked m c (clampPart m c count sides k) ≡ []
+module _ (m : ℕ) (c : Lists) (radius count : ℕ) (sides : List ℤ) (k : ℕ) where
+  no-clamp : standing count sides k ≡ false → whereChecked m c (clampPart m c radius count sides k) ≡ []
   unfolding clampPart
-  no-clamp e = told-empty m c (clampPart m c count sides k) (rw e)
+  no-clamp e = told-empty m c (clampPart m c radius count sides k) (rw e)
 
   -- past the last clamp, past the most that a job may have, past the list of sides
-  pub past-count : count ≤ k → whereChecked m c (clampPart m c count sides k) ≡ []
+  pub past-count : count ≤ k → whereChecked m c (clampPart m c radius count sides k) ≡ []
   past-count h = no-clamp (rw (le-ltb k count h))
 
-  pub past-most : k < count → clampsMost ≤ k → whereChecked m c (clampPart m c count sides k) ≡ []
+  pub past-most : k < count → clampsMost ≤ k → whereChecked m c (clampPart m c radius count sides k) ≡ []
   past-most g h = no-clamp (rw (lt-ltb k count g, le-ltb k clampsMost h))
 
-  pub past-sides : k < count → k < clampsMost → length sides < 4 * k + 4 → whereChecked m c (clampPart m c count sides k) ≡ []
+  pub past-sides : k < count → k < clampsMost → length sides < 4 * k + 4 → whereChecked m c (clampPart m c radius count sides k) ≡ []
   past-sides g h i = no-clamp (rw (lt-ltb k count g, lt-ltb k clampsMost h, lt-leb (4 * k + 4) (length sides) i))
 
   -- a clamp that is there
   pub clamp-there : k < count → k < clampsMost → 4 * k + 4 ≤ length sides
-      → clampPart m c count sides k ≡ whereSound (clampAt sides k) (clampLines m c (suc k) (clampAt sides k))
+      → clampPart m c radius count sides k ≡ whereSound radius (clampAt sides k) (clampLines m c radius (suc k) (clampAt sides k))
   unfolding clampPart
   clamp-there g h i = rw (lt-ltb k count g, lt-ltb k clampsMost h, le-leb (4 * k + 4) (length sides) i)

@@ -1,5 +1,5 @@
 -- What the list call's answer says of a clamp's lines, where its two lists have a place for each span that a curve can have.
-use mathlib.Core.Bool.{Bool, true, false, cond, false≢true}
+use mathlib.Core.Bool.{Bool, true, false, cond, _&&_, false≢true}
 use mathlib.Core.List.{List, []}
 use mathlib.Core.Path.{_≡_, refl, sym, _∙_, ap}
 use Prim.Native.Nat.{ℕ, _≤_}
@@ -14,12 +14,14 @@ use Rattle.lent.specs.Lent.{over, after}
 use Rattle.lent.proofs.OverLaws.{over-result}
 use Rattle.curve.specs.Lists.{lists}
 use Rattle.grid.specs.Check.{checkNumber}
+use Rattle.grid.specs.Rows.{radiusOk}
 use Rattle.grid.proofs.SizeLaws.{sizes-of-passes}
+use Rattle.boxes.specs.Widening.{widened}
 use Rattle.boxes.specs.declared.Rectangle.{Rectangle}
 use Rattle.span_walk.specs.SpansMet.{spanCount, spansMet, lowKnots, highKnots}
 use Rattle.spans_met.specs.declared.SpansAnswer.the-variants.{Listed, Refused}
 use Rattle.spans_met.specs.Answer.{numberWithPlaces}
-use Rattle.spans_met.proofs.AnswerLaws.{sidesOk, number-curve, number-sides, number-none}
+use Rattle.spans_met.proofs.AnswerLaws.{sidesOk, number-curve, number-radius, number-sides, number-none}
 use Rattle.clamp_lines.specs.Places.{spansMost}
 use Rattle.clamp_lines.specs.ClampPart.{whereChecked, whereSound, clampLines}
 use Rattle.clamp_lines.proofs.CountLaws.{spanCount-most, met-most}
@@ -33,22 +35,23 @@ by-refusal : (t : Bool) (n r number : ℕ) → cond t (Listed n) (Refused r) ≡
 by-refusal true n r number e = absurd (let z : _≡_ {A = ℕ} 0 1 = cc in omega arith)
 by-refusal false n r number e = refl
 
-module _ (m : ℕ) (ts : List ℕ) (xs ys : List ℤ) (clamp : Rectangle) (lows highs : ℕ) where
+module _ (m : ℕ) (ts : List ℕ) (xs ys : List ℤ) (clamp : Rectangle) (radius lows highs : ℕ) where
   abbrev number : ℕ
-  number = numberWithPlaces m (lists ts xs ys) clamp lows highs
+  number = numberWithPlaces m (lists ts xs ys) clamp radius lows highs
 
   abbrev met : List ℕ
-  met = spansMet clamp m ts xs ys
+  met = spansMet (widened radius clamp) m ts xs ys
 
-  -- spans were counted: the curve passes the check, row 14 passes the clamp, and the count is that of the spans met
+  -- spans were counted: the curve passes the check, row 22 passes the radius and row 14 the clamp, and the count is that of the spans met
   pub record Counted (count : ℕ) : Type 0 where
     pub none : number ≡ 0
     pub passes : checkNumber m ts xs ys ≡ 0
+    pub short : radiusOk radius ≡ true
     pub sound : sidesOk clamp ≡ true
     pub counts : count ≡ length met
     pub few : count ≤ spansMost
 
-  -- the number is 0 only where curve and clamp pass
+  -- the number is 0 only where curve, radius and clamp pass
   curve-passes : number ≡ 0 → checkNumber m ts xs ys ≡ 0
   curve-passes h = by (eqb (checkNumber m ts xs ys) 0) refl
     where
@@ -56,32 +59,41 @@ module _ (m : ℕ) (ts : List ℕ) (xs ys : List ℤ) (clamp : Rectangle) (lows 
       by true e = eqb-true (checkNumber m ts xs ys) 0 e
       by false e =
           let refused : checkNumber m ts xs ys ≡ 0 → ⊥ = λ z. false≢true (sym e ∙ eq-eqb (checkNumber m ts xs ys) 0 z) in
-          absurd (refused (sym (number-curve m ts xs ys clamp lows highs refused) ∙ h))
+          absurd (refused (sym (number-curve m ts xs ys clamp radius lows highs refused) ∙ h))
 
-  clamp-passes : checkNumber m ts xs ys ≡ 0 → number ≡ 0 → sidesOk clamp ≡ true
-  clamp-passes passes h = by (sidesOk clamp) refl
+  radius-passes : checkNumber m ts xs ys ≡ 0 → number ≡ 0 → radiusOk radius ≡ true
+  radius-passes passes h = by (radiusOk radius) refl
+    where
+      by : (t : Bool) → radiusOk radius ≡ t → radiusOk radius ≡ true
+      by true e = e
+      by false e = absurd (omega (arith, number-radius m ts xs ys clamp radius lows highs passes e, h))
+
+  clamp-passes : checkNumber m ts xs ys ≡ 0 → radiusOk radius ≡ true → number ≡ 0 → sidesOk clamp ≡ true
+  clamp-passes passes short h = by (sidesOk clamp) refl
     where
       by : (t : Bool) → sidesOk clamp ≡ t → sidesOk clamp ≡ true
       by true e = e
-      by false e = absurd (omega (arith, number-sides m ts xs ys clamp lows highs passes e, h))
+      by false e = absurd (omega (arith, number-sides m ts xs ys clamp radius lows highs passes short e, h))
 
   pub counted : (count : ℕ) → Listed count ≡ answered Listed Refused number (length met) → Counted count
   counted count e =
       let a = by-count (eqb number accepted) (length met) number count (sym e) in
       let none : number ≡ 0 = eqb-true number accepted (a .0) in
       let passes = curve-passes none in
+      let short = radius-passes passes none in
       let size = sizes-of-passes m ts xs ys passes in
       record {
         none = none;
         passes = passes;
-        sound = clamp-passes passes none;
+        short = short;
+        sound = clamp-passes passes short none;
         counts = a .1;
-        few = omega (arith, a .1, met-most clamp m ts xs ys, size .most, size .degree-least);
+        few = omega (arith, a .1, met-most (widened radius clamp) m ts xs ys, size .most, size .degree-least);
       }
 
   -- what is then told of the clamp
-  pub counted-lines : (count k : ℕ) → Counted count → whereChecked m (lists ts xs ys) (whereSound clamp (clampLines m (lists ts xs ys) k clamp)) ≡ clampLines m (lists ts xs ys) k clamp
-  counted-lines count k h = rw (h .passes, h .sound)
+  pub counted-lines : (count k : ℕ) → Counted count → whereChecked m (lists ts xs ys) (whereSound radius clamp (clampLines m (lists ts xs ys) radius k clamp)) ≡ clampLines m (lists ts xs ys) radius k clamp
+  counted-lines count k h = rw (h .passes, h .short, h .sound)
 
   -- a list afterwards: as many knots as were counted stand at its front, and they are those of the spans met
   pub record Front (count : ℕ) (list result : List ℕ) : Type 0 where
@@ -107,16 +119,17 @@ module _ (m : ℕ) (ts : List ℕ) (xs ys : List ℤ) (clamp : Rectangle) (lows 
 
   -- the call refused, with places for all spans: nothing is told of the clamp
   pub refused-lines : (r k : ℕ) → Refused r ≡ answered Listed Refused number (length met) → spansMost ≤ lows → spansMost ≤ highs
-      → whereChecked m (lists ts xs ys) (whereSound clamp (clampLines m (lists ts xs ys) k clamp)) ≡ []
-  refused-lines r k e a b = by (eqb (checkNumber m ts xs ys) 0) (sidesOk clamp) refl refl
+      → whereChecked m (lists ts xs ys) (whereSound radius clamp (clampLines m (lists ts xs ys) radius k clamp)) ≡ []
+  refused-lines r k e a b = by (eqb (checkNumber m ts xs ys) 0) (radiusOk radius) (sidesOk clamp) refl refl refl
     where
-      by : (t u : Bool) → eqb (checkNumber m ts xs ys) 0 ≡ t → sidesOk clamp ≡ u
-          → cond t (cond u (clampLines m (lists ts xs ys) k clamp) []) [] ≡ []
-      by false u p q = refl
-      by true false p q = refl
-      by true true p q =
+      by : (t v u : Bool) → eqb (checkNumber m ts xs ys) 0 ≡ t → radiusOk radius ≡ v → sidesOk clamp ≡ u
+          → cond t (cond (v && u) (clampLines m (lists ts xs ys) radius k clamp) []) [] ≡ []
+      by false v u p s q = refl
+      by true false u p s q = refl
+      by true true false p s q = refl
+      by true true true p s q =
           let passes : checkNumber m ts xs ys ≡ 0 = eqb-true (checkNumber m ts xs ys) 0 p in
           let size = sizes-of-passes m ts xs ys passes in
           let few : spanCount m ts (length xs) ≤ spansMost = omega (arith, spanCount-most m ts (length xs), size .most, size .degree-least) in
-          let none : number ≡ 0 = number-none m ts xs ys clamp lows highs passes q (omega (arith, few, a)) (omega (arith, few, b)) in
+          let none : number ≡ 0 = number-none m ts xs ys clamp radius lows highs passes s q (omega (arith, few, a)) (omega (arith, few, b)) in
           absurd (false≢true (sym (by-refusal (eqb number accepted) (length met) number r (sym e)) ∙ eq-eqb number accepted none))

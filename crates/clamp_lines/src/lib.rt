@@ -1,4 +1,4 @@
-// All lines on a clamp, put at the front of a lent list: one for each span that may meet it, or one that it is clear.
+// All lines on a clamp, put at the front of a lent list: one for each span on which the cutter may meet it, or one that it is clear.
 use boxes::Rectangle;
 use spans_met::SpansAnswer;
 ghost use mathlib.Core.Path.{_≡_};
@@ -38,6 +38,7 @@ fn put_met(
     xs: &[i32],
     ys: &[i32],
     clamp: Rectangle,
+    radius: u32,
     number: u32,
     lows: &mut [u16],
     highs: &mut [u16],
@@ -45,9 +46,9 @@ fn put_met(
 ) -> usize
     requires { ⌜ (number ≤ clampsMost) × (spansMost ≤ length (now lows)) × (spansMost ≤ length (now highs)) × (textMost ≤ length (now text)) ⌝ }
     ensures result { λ r. ⌜ Put (now (text .entry)) 0 (whereChecked degree (lists (now (knots .entry)) (now (xs .entry)) (now (ys .entry)))
-        (whereSound clamp (clampLines degree (lists (now (knots .entry)) (now (xs .entry)) (now (ys .entry))) number clamp))) (now (text .exit)) r ⌝ }
+        (whereSound radius clamp (clampLines degree (lists (now (knots .entry)) (now (xs .entry)) (now (ys .entry))) radius number clamp))) (now (text .exit)) r ⌝ }
 {
-    match spans_met::list_spans_met(degree, knots, xs, ys, clamp, lows, highs) {
+    match spans_met::list_spans_met(degree, knots, xs, ys, clamp, radius, lows, highs) {
         SpansAnswer::Listed(count) => put_listed(number, &lows[..count], &highs[..count], text),
         SpansAnswer::Refused(_) => 0,
     }
@@ -73,6 +74,7 @@ pub fn put_clamp(
     knots: &[u16],
     xs: &[i32],
     ys: &[i32],
+    radius: u32,
     count: usize,
     sides: &[i32],
     k: usize,
@@ -80,7 +82,7 @@ pub fn put_clamp(
 ) -> usize
     requires { ⌜ textMost ≤ length (now text) ⌝ }
     ensures result { λ r. ⌜ Put (now (text .entry)) 0 (whereChecked degree (lists (now (knots .entry)) (now (xs .entry)) (now (ys .entry)))
-        (clampPart degree (lists (now (knots .entry)) (now (xs .entry)) (now (ys .entry))) count (now (sides .entry)) k)) (now (text .exit)) r ⌝ }
+        (clampPart degree (lists (now (knots .entry)) (now (xs .entry)) (now (ys .entry))) radius count (now (sides .entry)) k)) (now (text .exit)) r ⌝ }
 {
     if count <= k {
         return 0;
@@ -100,6 +102,7 @@ pub fn put_clamp(
         xs,
         ys,
         clamp,
+        radius,
         (k + 1) as u32,
         &mut lows,
         &mut highs,

@@ -2,5 +2,6 @@
 pub mod JobFaultLaws
 pub mod JobReadLaws
 pub mod JobLayoutLaws
+pub mod OneJobLaws
 pub mod SentenceLaws
 pub mod Controls

@@ -17,10 +17,10 @@ use Rattle.job_text.specs.Program.{Places}
 use Rattle.job_text.specs.Text.{textNumber}
 use Rattle.job_text.proofs.ClampLaws.{sides-length}
 
-pub number-same : (m : ℕ) (c : Lists) (cs : List Clamp) (lent : Lists) (sides : List ℤ) → StorableJob form1 m c cs → Places lent sides
-    → jobNumber m c cs lent (length sides) ≡ textNumber m c cs
+pub number-same : (m : ℕ) (c : Lists) (radius : ℕ) (cs : List Clamp) (lent : Lists) (sides : List ℤ) → StorableJob form1 m c radius cs → Places lent sides
+    → jobNumber m c radius cs lent (length sides) ≡ textNumber m c radius cs
 unfolding jobNumber textNumber
-number-same m c cs lent sides w p =
+number-same m c radius cs lent sides w p =
     rw (
       le-leb (length (allSides cs)) (length sides) (omega (arith, w .few, sides-length cs, p .onSides)),
       enough-all (length (c .knots)) (length (c .xs)) (length (c .ys)) (length (lent .knots)) (length (lent .xs)) (length (lent .ys))

@@ -26,32 +26,32 @@ use Rattle.job_text.proofs.ReadLaws.{job-read}
 use Rattle.job_text.proofs.RoomLaws.{number-same}
 
 -- the part of a job, by its number
-module _ (m : ℕ) (c : Lists) (cs : List Clamp) (before : Lists) (sidesBefore : List ℤ) (k : ℕ) (few : StorableJob form1 m c cs) where
-  job-part : (number : ℕ) → number ≡ textNumber m c cs
-      → answerPart (jobAnswer (judged number) m (length (c .xs)) (length cs)) (handedOver number c before) (after number (allSides cs) sidesBefore) k ≡ partOf m c cs k
+module _ (m : ℕ) (c : Lists) (radius : ℕ) (cs : List Clamp) (before : Lists) (sidesBefore : List ℤ) (k : ℕ) (few : StorableJob form1 m c radius cs) where
+  job-part : (number : ℕ) → number ≡ textNumber m c radius cs
+      → answerPart (jobAnswer (judged number) m (length (c .xs)) radius (length cs)) (handedOver number c before) (after number (allSides cs) sidesBefore) k ≡ partOf m c radius cs k
   unfolding partOf
   job-part number e = by (eqb number accepted) refl
     where
       by : (t : Bool) → eqb number accepted ≡ t
-          → answerPart (jobAnswer (judged number) m (length (c .xs)) (length cs)) (handedOver number c before) (after number (allSides cs) sidesBefore) k ≡ partOf m c cs k
+          → answerPart (jobAnswer (judged number) m (length (c .xs)) radius (length cs)) (handedOver number c before) (after number (allSides cs) sidesBefore) k ≡ partOf m c radius cs k
       by true z =
           let none : number ≡ 0 = eqb-true number accepted z in
-          let text-none : textNumber m c cs ≡ 0 = sym e ∙ none in
-          rw (none, text-none) (job-read m c cs before sidesBefore (few .few) text-none k)
+          let text-none : textNumber m c radius cs ≡ 0 = sym e ∙ none in
+          rw (none, text-none) (job-read m c radius cs before sidesBefore (few .few) text-none k)
       by false z = rw (z, sym e, z)
 
 from-cases : (bytes : List ℕ) (before : Lists) (sidesBefore : List ℤ) (k : ℕ) → Places before sidesBefore
-    → (verdict : Verdict) (m : ℕ) (c : Lists) (cs : List Clamp) → JobComesTo bytes before (length sidesBefore) verdict m c cs
-    → PartOf bytes k (answerPart (jobAnswer verdict m (length (c .xs)) (length cs)) (handedOver (numberOf verdict) c before) (after (numberOf verdict) (allSides cs) sidesBefore) k)
-from-cases bytes before sidesBefore k p verdict m c cs (reading.isJob w) =
-    text.isJob w (job-part (w .m) (w .c) (w .cs) before sidesBefore k (w .storable) (jobNumber (w .m) (w .c) (w .cs) before (length sidesBefore)) (number-same (w .m) (w .c) (w .cs) before sidesBefore (w .storable) p))
-from-cases bytes before sidesBefore k p verdict m c cs (reading.isBroken fault n d ds) = text.isBroken fault refl
+    → (verdict : Verdict) (m : ℕ) (c : Lists) (radius : ℕ) (cs : List Clamp) → JobComesTo bytes before (length sidesBefore) verdict m c radius cs
+    → PartOf bytes k (answerPart (jobAnswer verdict m (length (c .xs)) radius (length cs)) (handedOver (numberOf verdict) c before) (after (numberOf verdict) (allSides cs) sidesBefore) k)
+from-cases bytes before sidesBefore k p verdict m c radius cs (reading.isJob w) =
+    text.isJob w (job-part (w .m) (w .c) (w .radius) (w .cs) before sidesBefore k (w .storable) (jobNumber (w .m) (w .c) (w .radius) (w .cs) before (length sidesBefore)) (number-same (w .m) (w .c) (w .radius) (w .cs) before sidesBefore (w .storable) p))
+from-cases bytes before sidesBefore k p verdict m c radius cs (reading.isBroken fault n d reach ds) = text.isBroken fault refl
 
 pub parts-are-the-text : PartsAreTheText
 parts-are-the-text bytes answer now sides k places r room =
     let h = r .read in
     rw (le-leb textMost places room, h .answers, h .hands, h .clampsNow)
-    (from-cases bytes (r .before) (r .sidesBefore) k (r .places) (h .verdict) (h .m) (h .c) (h .cs) (h .comesTo))
+    (from-cases bytes (r .before) (r .sidesBefore) k (r .places) (h .verdict) (h .m) (h .c) (h .radius) (h .cs) (h .comesTo))
 
 pub written-is-text : WrittenIsText
 written-is-text bytes answer now sides places r room =

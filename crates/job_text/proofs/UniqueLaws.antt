@@ -7,22 +7,16 @@ use Rattle.grid.specs.Limits.{clampsMost, jobMost}
 use Rattle.lines.specs.Lines.{brokenLine}
 use Rattle.report.specs.Part.{brokenPart}
 use Rattle.job.proofs.JobFaultLaws.{job-fault-most}
+use Rattle.job.proofs.OneJobLaws.{one-job}
 use Rattle.format.specs.Format.{form1}
-use Rattle.format.proofs.InjectiveLaws.{form1-injective}
 use Rattle.fault.proofs.OneFaultLaws.{one-fault, file-no-fault}
-use Rattle.clamps.specs.Clamp.{clampFields}
-use Rattle.clamps.proofs.ClampLaws.{clamps-injective}
-use Rattle.job.specs.JobFormat.{jobBytes, IsJob, jobs}
+use Rattle.job.specs.JobFormat.{IsJob, jobs}
 use Rattle.job_text.specs.Text.{partOf, PartOf, isJob, isBroken, joined, TextOf}
 use Rattle.job_text.specs.Program.{BrokenIsOneLine, OneText}
 
--- lists that have the same bytes have the same parts
-same-part : (bytes : List ℕ) (k : ℕ) (w v : IsJob form1 bytes) → partOf (w .m) (w .c) (w .cs) k ≡ partOf (v .m) (v .c) (v .cs) k
-unfolding jobBytes
-same-part bytes k w v =
-    let s = form1-injective (w .m) (w .c) (clampFields (w .cs)) (v .m) (v .c) (clampFields (v .cs)) (w .storable .curve) (v .storable .curve) (sym (w .same) ∙ v .same) in
-    let t = clamps-injective (w .cs) (v .cs) (w .storable .clamps) (v .storable .clamps) (s .behind) in
-    rw (s .degree, s .curve, t)
+-- a job has one part k
+same-part : (bytes : List ℕ) (k : ℕ) (w v : IsJob form1 bytes) → partOf (w .m) (w .c) (w .radius) (w .cs) k ≡ partOf (v .m) (v .c) (v .radius) (v .cs) k
+same-part bytes k w v = let same = one-job w v in rw (same .degree, same .curve, same .radius, same .clamps)
 
 part-unique : (bytes : List ℕ) (k : ℕ) (a b : List ℕ) → PartOf bytes k a → PartOf bytes k b → a ≡ b
 part-unique bytes k a b (isJob w e) (isJob v f) = e ∙ same-part bytes k w v ∙ sym f

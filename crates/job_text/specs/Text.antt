@@ -7,10 +7,11 @@ use Prim.Native.Nat.{ℕ, zero, suc, _+_}
 use lib.Dec.{eqb, ltb}
 use lib.ListN.{length, getD}
 use Rattle.refusal.specs.Judging.{unless}
-use Rattle.refusal.specs.Numbers.{accepted, rectangleRefused}
+use Rattle.refusal.specs.Numbers.{accepted, radiusRefused, rectangleRefused}
 use Rattle.curve.specs.Lists.{Lists}
 use Rattle.grid.specs.Limits.{clampsMost}
 use Rattle.grid.specs.Check.{checkedThen}
+use Rattle.grid.specs.Rows.{radiusOk}
 use Rattle.boxes.specs.declared.Rectangle.{Rectangle}
 use Rattle.format.specs.Format.{form1}
 use Rattle.fault.specs.Fault.{Fault}
@@ -23,23 +24,24 @@ use Rattle.report.specs.Part.{curveText, refusedPart, brokenPart}
 abbrev pub rectangleOf : Clamp → Rectangle
 rectangleOf clamp = record { «low_x» = clamp .lowX; «high_x» = clamp .highX; «low_y» = clamp .lowY; «high_y» = clamp .highY }
 
--- part k of an accepted job: the line on its curve, then for each clamp, numbered from 1, a line for each span that may meet it or one that it
--- is clear
-unfoldable pub acceptedPart : ℕ → Lists → List Clamp → ℕ → List ℕ
-acceptedPart m c cs zero = curveText m c
-acceptedPart m c cs (suc k) = cond (ltb k (length cs)) (clampLines m c (suc k) (rectangleOf (getD cs k noClamp))) []
+-- part k of an accepted job: the line on its curve, then for each clamp, numbered from 1, a line for each span on which the cutter may meet it
+-- or one that it is clear
+unfoldable pub acceptedPart : ℕ → Lists → ℕ → List Clamp → ℕ → List ℕ
+acceptedPart m c radius cs zero = curveText m c
+acceptedPart m c radius cs (suc k) = cond (ltb k (length cs)) (clampLines m c radius (suc k) (rectangleOf (getD cs k noClamp))) []
 
--- the number of refusal: 1 to 7 for the curve, then 14 for any clamp
-unfoldable pub textNumber : ℕ → Lists → List Clamp → ℕ
-textNumber m c cs = checkedThen m (c .knots) (c .xs) (c .ys) (unless (clampsOk cs) rectangleRefused accepted)
+-- the number of refusal: 1 to 7 for the curve, then 22 for the radius, then 14 for any clamp
+unfoldable pub textNumber : ℕ → Lists → ℕ → List Clamp → ℕ
+textNumber m c radius cs =
+    checkedThen m (c .knots) (c .xs) (c .ys) (unless (radiusOk radius) radiusRefused (unless (clampsOk cs) rectangleRefused accepted))
 
--- part k of a job: that of its curve and clamps, or of its refusal
-unfoldable pub partOf : ℕ → Lists → List Clamp → ℕ → List ℕ
-partOf m c cs k = cond (eqb (textNumber m c cs) accepted) (acceptedPart m c cs k) (refusedPart (textNumber m c cs) k)
+-- part k of a job: that of its curve, radius and clamps, or of its refusal
+unfoldable pub partOf : ℕ → Lists → ℕ → List Clamp → ℕ → List ℕ
+partOf m c radius cs k = cond (eqb (textNumber m c radius cs) accepted) (acceptedPart m c radius cs k) (refusedPart (textNumber m c radius cs) k)
 
 -- part k of the text of some bytes: that of the job that they are, or of their leftmost fault where they are nobody's
 pub data PartOf (bytes : List ℕ) (k : ℕ) (part : List ℕ) : Type 0 where
-  isJob : (w : IsJob form1 bytes) → part ≡ partOf (w .m) (w .c) (w .cs) k → PartOf bytes k part
+  isJob : (w : IsJob form1 bytes) → part ≡ partOf (w .m) (w .c) (w .radius) (w .cs) k → PartOf bytes k part
   isBroken : {number place : ℕ} → Fault jobs bytes number place → part ≡ brokenPart number place k → PartOf bytes k part
 
 -- the first n parts, in their order

@@ -30,25 +30,25 @@ unfoldable pub brokenPart : ℕ → ℕ → ℕ → List ℕ
 brokenPart number place zero = cond (leb place jobMost) (brokenLine number place) []
 brokenPart number place (suc k) = []
 
--- part k of a curve with `count` clamps; in the text they are numbered from 1
-unfoldable pub curvePart : ℕ → Lists → ℕ → List ℤ → ℕ → List ℕ
-curvePart m c count sides zero = curveText m c
-curvePart m c count sides (suc k) = clampPart m c count sides k
+-- part k of a curve with a cutter's radius and `count` clamps; in the text they are numbered from 1
+unfoldable pub curvePart : ℕ → Lists → ℕ → ℕ → List ℤ → ℕ → List ℕ
+curvePart m c radius count sides zero = curveText m c
+curvePart m c radius count sides (suc k) = clampPart m c radius count sides k
 
 -- the curve that was read: the fronts of the lists
 abbrev pub curveRead : ℕ → ℕ → Lists → Lists
 curveRead m points now = lists (take (points + m + 1) (now .knots)) (take points (now .xs)) (take points (now .ys))
 
 -- part k of a job that was read into lists with room for it
-unfoldable pub jobPart : ℕ → ℕ → ℕ → Lists → List ℤ → ℕ → List ℕ
-jobPart m points count now sides k =
+unfoldable pub jobPart : ℕ → ℕ → ℕ → ℕ → Lists → List ℤ → ℕ → List ℕ
+jobPart m points radius count now sides k =
     cond (enough (points + m + 1) points points (length (now .knots)) (length (now .xs)) (length (now .ys)))
-    (whereChecked m (curveRead m points now) (curvePart m (curveRead m points now) count sides k))
+    (whereChecked m (curveRead m points now) (curvePart m (curveRead m points now) radius count sides k))
     []
 
 -- part k by the reader's answer
 abbrev pub answerPart : JobAnswer → Lists → List ℤ → ℕ → List ℕ
-answerPart (Job m points count) now sides k = jobPart m points count now sides k
+answerPart (Job m points radius count) now sides k = jobPart m points radius count now sides k
 answerPart (Broken number place) now sides k = brokenPart number place k
 answerPart (Refused number) now sides k = refusedPart number k
 

@@ -36,12 +36,13 @@ fn put_broken(number: u32, place: usize, k: usize, text: &mut [u8]) -> usize
     lines::put_broken_line(text, 0, number, place as u32)
 }
 
-// Part k of a curve with its clamps.
+// Part k of a curve with the cutter's radius and its clamps.
 fn put_curve_part(
     degree: u32,
     knots: &[u16],
     xs: &[i32],
     ys: &[i32],
+    radius: u32,
     count: usize,
     sides: &[i32],
     k: usize,
@@ -49,18 +50,29 @@ fn put_curve_part(
 ) -> usize
     requires { ⌜ textMost ≤ length (now text) ⌝ }
     ensures result { λ r. ⌜ Put (now (text .entry)) 0 (whereChecked degree (lists (now (knots .entry)) (now (xs .entry)) (now (ys .entry)))
-        (curvePart degree (lists (now (knots .entry)) (now (xs .entry)) (now (ys .entry))) count (now (sides .entry)) k)) (now (text .exit)) r ⌝ }
+        (curvePart degree (lists (now (knots .entry)) (now (xs .entry)) (now (ys .entry))) radius count (now (sides .entry)) k)) (now (text .exit)) r ⌝ }
 {
     if k == 0 {
         return curve_line::put_curve(degree, knots, xs, ys, text);
     }
-    clamp_lines::put_clamp(degree, knots, xs, ys, count, sides, k - 1, text)
+    clamp_lines::put_clamp(
+        degree,
+        knots,
+        xs,
+        ys,
+        radius,
+        count,
+        sides,
+        k - 1,
+        text,
+    )
 }
 
 // Part k of a job that was read into the fronts of the lists.
 fn put_job(
     degree: u32,
     points: usize,
+    radius: u32,
     count: usize,
     knots: &[u16],
     xs: &[i32],
@@ -71,7 +83,7 @@ fn put_job(
 ) -> usize
     requires { ⌜ textMost ≤ length (now text) ⌝ }
     ensures result { λ r. ⌜ Put (now (text .entry)) 0
-        (jobPart degree points count (lists (now (knots .entry)) (now (xs .entry)) (now (ys .entry))) (now (sides .entry)) k) (now (text .exit)) r ⌝ }
+        (jobPart degree points radius count (lists (now (knots .entry)) (now (xs .entry)) (now (ys .entry))) (now (sides .entry)) k) (now (text .exit)) r ⌝ }
 {
     if xs.len() < points {
         return 0;
@@ -85,6 +97,7 @@ fn put_job(
         &knots[..end],
         &xs[..points],
         &ys[..points],
+        radius,
         count,
         sides,
         k,
@@ -114,7 +127,8 @@ pub fn put_part(
         JobAnswer::Job {
             degree,
             points,
+            radius,
             clamps,
-        } => put_job(degree, points, clamps, knots, xs, ys, sides, k, text),
+        } => put_job(degree, points, radius, clamps, knots, xs, ys, sides, k, text),
     }
 }

@@ -1,5 +1,5 @@
 -- Jobs: reading gives the lists back, has one outcome, and no job is long.
-use mathlib.Core.List.{List, _++_}
+use mathlib.Core.List.{List}
 use mathlib.Core.Logic.{_↔_}
 use mathlib.Core.Path.{_≡_, refl, sym, ap₂, _∙_, subst₂}
 use Prim.Native.Nat.{ℕ, _≤_}
@@ -14,17 +14,14 @@ use Rattle.curve.specs.HandingOver.{handedOver}
 use Rattle.curve.specs.Lists.{Lists}
 use Rattle.grid.specs.Rows.{radiusOk}
 use Rattle.format.specs.Format.{form1}
-use Rattle.format.proofs.InjectiveLaws.{form1-injective}
 use Rattle.lent.proofs.SentenceLaws.{refusal-leaves-list}
 use Rattle.curve.proofs.HandingLaws.{handedOver-refused}
 use Rattle.fault.specs.Fault.{Fault}
 use Rattle.fault.specs.Verdict.{Verdict, numberOf}
 use Rattle.fault.proofs.OneFaultLaws.{one-fault, file-no-fault, fault-above, fault-refuses}
 use Rattle.job.proofs.JobFaultLaws.{job-most}
-use Rattle.cutter.specs.Radius.{radiusField}
-use Rattle.cutter.proofs.FieldLaws.{radius-injective}
-use Rattle.clamps.specs.Clamp.{Clamp, clampFields, clampsOk, allSides}
-use Rattle.clamps.proofs.ClampLaws.{clamps-injective}
+use Rattle.job.proofs.OneJobLaws.{one-job}
+use Rattle.clamps.specs.Clamp.{Clamp, clampsOk, allSides}
 use Rattle.job.specs.JobFormat.{jobBytes, IsJob, jobs}
 use Rattle.job.specs.JobReading.{jobRoomFor, jobNumber, jobAnswer, JobComesTo, isJob, isBroken}
 use Rattle.job.specs.declared.JobAnswer.the-variants.{Job, Broken, Refused}
@@ -37,25 +34,6 @@ job-apart m points radius clamps number place e = let z : _≡_ {A = ℕ} 0 1 = 
 
 refused-apart : (n number place : ℕ) → Refused n ≡ Broken number place → ⊥
 refused-apart n number place e = let z : _≡_ {A = ℕ} 0 1 = cc in omega arith
-
--- the lists, radius and clamps that bytes are the job of are one
-record OneJob {bytes : List ℕ} (w v : IsJob form1 bytes) : Type 0 where
-  degree : w .m ≡ v .m
-  curve : w .c ≡ v .c
-  radius : w .radius ≡ v .radius
-  clamps : w .cs ≡ v .cs
-
-one-job : {bytes : List ℕ} (w v : IsJob form1 bytes) → OneJob w v
-unfolding jobBytes
-one-job w v =
-    let same = form1-injective (w .m) (w .c) (radiusField (w .radius) ++ clampFields (w .cs)) (v .m) (v .c) (radiusField (v .radius) ++ clampFields (v .cs)) (w .storable .curve) (v .storable .curve) (sym (w .same) ∙ v .same) in
-    let behind = radius-injective (w .radius) (v .radius) (clampFields (w .cs)) (clampFields (v .cs)) (w .storable .short) (v .storable .short) (same .behind) in
-    record {
-      degree = same .degree;
-      curve = same .curve;
-      radius = behind .0;
-      clamps = clamps-injective (w .cs) (v .cs) (w .storable .clamps) (v .storable .clamps) (behind .1);
-    }
 
 -- whatever bytes come to, the answer and the lists are one
 one-outcome : (sides : List ℤ) {bytes : List ℕ} {before : Lists} {s t : Verdict} {m d : ℕ} {c e : Lists} {radius reach : ℕ} {cs es : List Clamp}

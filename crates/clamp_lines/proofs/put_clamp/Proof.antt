@@ -10,12 +10,12 @@ use Rattle.clamp_lines.proofs.put_clamp.Tie as tie
 returns : tie.Need-returns
 returns c =
     let a = c .before .before .before .args in
-    put-nothing (a .text .now) (past-count (a .degree) (lists (a .knots .now) (a .xs .now) (a .ys .now)) (a .count) (a .sides .now) (a .k) (omega arith))
+    put-nothing (a .text .now) (past-count (a .degree) (lists (a .knots .now) (a .xs .now) (a .ys .now)) (a .radius) (a .count) (a .sides .now) (a .k) (omega arith))
 
 returns-2 : tie.Need-returns-2
 returns-2 c =
     let a = c .before .before .before .before .args in
-    put-nothing (a .text .now) (past-most (a .degree) (lists (a .knots .now) (a .xs .now) (a .ys .now)) (a .count) (a .sides .now) (a .k) (omega arith) (omega arith))
+    put-nothing (a .text .now) (past-most (a .degree) (lists (a .knots .now) (a .xs .now) (a .ys .now)) (a .radius) (a .count) (a .sides .now) (a .k) (omega arith) (omega arith))
 
 mul-if3 : tie.Need-mul-if3
 mul-if3 c = search needs
@@ -26,7 +26,7 @@ add-if3 c = search needs
 returns-3 : tie.Need-returns-3
 returns-3 c =
     let a = c .before .before .before .before .before .args in
-    put-nothing (a .text .now) (past-sides (a .degree) (lists (a .knots .now) (a .xs .now) (a .ys .now)) (a .count) (a .sides .now) (a .k) (omega arith) (omega arith) (omega arith))
+    put-nothing (a .text .now) (past-sides (a .degree) (lists (a .knots .now) (a .xs .now) (a .ys .now)) (a .radius) (a .count) (a .sides .now) (a .k) (omega arith) (omega arith) (omega arith))
 
 clamp-at-requires : tie.Need-clamp-at-requires
 clamp-at-requires c κs = search needs
@@ -52,7 +52,7 @@ same-length c = search needs
 returns-4 : tie.Need-returns-4
 returns-4 c =
     let a = c .before .before .before .before .before .before .before .before .before .before .before .before .before .before .args in
-    rw (clamp-there (a .degree) (lists (a .knots .now) (a .xs .now) (a .ys .now)) (a .count) (a .sides .now) (a .k) (omega arith) (omega arith) (omega arith))
+    rw (clamp-there (a .degree) (lists (a .knots .now) (a .xs .now) (a .ys .now)) (a .radius) (a .count) (a .sides .now) (a .k) (omega arith) (omega arith) (omega arith))
     (rw (c .before .before .before .before .before .before .before .before .clamp-at .ensures, add-one (a .k)) at (c .before .before .before .before .put-met .ensures))
 
 pub put-clamp-spec : {M : Type 1} → statement M

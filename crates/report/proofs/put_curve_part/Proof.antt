@@ -33,7 +33,7 @@ same-length-2 c = search needs
 returns-2 : tie.Need-returns-2
 returns-2 c =
     let a = c .before .before .before .before .before .before .before .args in
-    rw (part-of-clamp (a .degree) (lists (a .knots .now) (a .xs .now) (a .ys .now)) (a .count) (a .sides .now) (a .k) (omega arith)) (c .before .before .put-clamp .ensures)
+    rw (part-of-clamp (a .degree) (lists (a .knots .now) (a .xs .now) (a .ys .now)) (a .radius) (a .count) (a .sides .now) (a .k) (omega arith)) (c .before .before .put-clamp .ensures)
 
 pub put-curve-part-spec : {M : Type 1} → statement M
 put-curve-part-spec =

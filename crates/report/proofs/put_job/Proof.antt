@@ -16,7 +16,7 @@ use Rattle.report.proofs.put_job.Tie as tie
 returns : tie.Need-returns
 returns c =
     let a = c .before .before .before .args in
-    put-nothing (a .text .now) (short-of-points (a .degree) (a .points) (a .count) (lists (a .knots .now) (a .xs .now) (a .ys .now)) (a .sides .now) (a .k) (omega arith))
+    put-nothing (a .text .now) (short-of-points (a .degree) (a .points) (a .radius) (a .count) (lists (a .knots .now) (a .xs .now) (a .ys .now)) (a .sides .now) (a .k) (omega arith))
 
 add-end : tie.Need-add-end
 add-end c = search needs
@@ -30,7 +30,7 @@ room-for-requires c κs = search needs
 returns-2 : tie.Need-returns-2
 returns-2 c =
     let a = c .before .before .before .before .before .args in
-    put-nothing (a .text .now) (no-room (a .degree) (a .points) (a .count) (lists (a .knots .now) (a .xs .now) (a .ys .now)) (a .sides .now) (a .k) (test-failed (c .if2 .taken) (c .before .room-for .ensures)))
+    put-nothing (a .text .now) (no-room (a .degree) (a .points) (a .radius) (a .count) (lists (a .knots .now) (a .xs .now) (a .ys .now)) (a .sides .now) (a .k) (test-failed (c .if2 .taken) (c .before .room-for .ensures)))
 
 -- each front is no longer than its list
 within : (c : tie.Else2) → let a = c .before .before .before .before .before .args in (a .points + a .degree + 1 ≤ length (a .knots .now)) × (a .points ≤ length (a .xs .now)) × (a .points ≤ length (a .ys .now))
@@ -62,7 +62,7 @@ same-length c = search needs
 returns-3 : tie.Need-returns-3
 returns-3 c =
     let a = c .before .before .before .before .before .before .before .before .before .before .before .before .args in
-    rw (room (a .degree) (a .points) (a .count) (lists (a .knots .now) (a .xs .now) (a .ys .now)) (a .sides .now) (a .k) (test-passed (c .before .before .before .before .before .before .before .if2 .left) (c .before .before .before .before .before .before .before .before .room-for .ensures))) (c .before .before .put-curve-part .ensures)
+    rw (room (a .degree) (a .points) (a .radius) (a .count) (lists (a .knots .now) (a .xs .now) (a .ys .now)) (a .sides .now) (a .k) (test-passed (c .before .before .before .before .before .before .before .if2 .left) (c .before .before .before .before .before .before .before .before .room-for .ensures))) (c .before .before .put-curve-part .ensures)
 
 pub put-job-spec : {M : Type 1} → statement M
 put-job-spec =
