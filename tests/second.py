@@ -5,8 +5,8 @@
     python3 tests/second.py compare CALL     the same for the cases of one call
 
 The scripts tests/after/door_cases.py and text_cases.py run the cases through the proved library and the program, and hold what
-they answer to the same files. SECOND_FAULT=CALL plants one fault in that call here, and the comparison must then fail; a reader, feeding and joining
-have more faults, which second_program/fault.py lists. A name that is no fault, or none of the calls compared, is an error.
+they answer to the same files. SECOND_FAULT=CALL plants one fault in that call here, and the comparison must then fail; a reader, feeding,
+joining and the cutter's radius have more faults, which second_program/fault.py lists. A name that is no fault, or none of the calls compared, is an error.
 """
 
 import sys
@@ -14,7 +14,7 @@ from collections import Counter
 from pathlib import Path
 
 from second_program.cases import cases_of
-from second_program.demands import Broken, try_demands
+from second_program.demands import Broken, too_few_hits, try_demands
 from second_program.expected import Unexpected
 from second_program.fault import PLANTED, must_be_of
 from second_program.vectors import CALLS, answer_file, case_file
@@ -26,11 +26,12 @@ ANSWERS = FOLDER / "answers"
 LEAST_CASES = 2000
 LEAST_OF_CALL = 50
 LEAST_OF_REFUSAL = 20
-MOST_LARGE = 115
+MOST_LARGE = 130
 LARGE = 256
 MOST_BYTES = 4 * 1024 * 1024
 CHECK = (1, 2, 3, 4, 5, 6, 7)
 BROKEN = (16, 19, 20, 21)
+CLAMPS = (22, 14)
 JOINING = (17, 7, 11, 18, 15)
 REFUSALS = dict(
     check=CHECK,
@@ -40,12 +41,12 @@ REFUSALS = dict(
     remove_knot=CHECK + (12, 13, 15),
     compact=CHECK + (15,),
     join_through_points=JOINING,
-    list_spans_met=CHECK + (14, 15),
+    list_spans_met=CHECK + CLAMPS + (15,),
     write_record=CHECK + (15,),
     read_record=BROKEN + CHECK + (15,),
-    read_job=BROKEN + CHECK + (14, 15),
-    clampcheck_text=BROKEN + CHECK + (14,),
-    feed=BROKEN + CHECK + (14, 15),
+    read_job=BROKEN + CHECK + CLAMPS + (15,),
+    clampcheck_text=BROKEN + CHECK + CLAMPS,
+    feed=BROKEN + CHECK + CLAMPS + (15,),
     join=JOINING,
 )
 
@@ -85,12 +86,15 @@ def differences(calls, cases):
 def compare(calls):
     try:
         cases = [case for call in calls for case in cases_of(call)]
-        near, inside = try_demands([] if PLANTED else cases)  # a planted fault is for the answers to notice, and may leave no curve to try
+        near, hits = try_demands([] if PLANTED else cases)  # a planted fault is for the answers to notice, and may leave no curve to try
     except (Unexpected, Broken) as fault:
         return [str(fault)]
     faults = [*too_few(calls, cases), *too_many(cases), *differences(calls, cases)]
+    if tuple(calls) == CALLS and not PLANTED:
+        faults += too_few_hits(hits)
     if not faults:
-        print("%d cases; %d computed points within 2^-30; %d exact points in clamps" % (len(cases), near, inside))
+        reached = "%(inside)d exact points in clamps, %(within)d within the radius of one, %(at_side)d at it from a side, %(at_corner)d from a corner" % hits
+        print("%d cases; %d computed points within 2^-30; %s" % (len(cases), near, reached))
     return faults
 
 

@@ -25,6 +25,8 @@ NOWHERE = (
     ("read_job:left_over", ("read_record",)),
     ("join_through_points:keeps_meeting", ()),
     ("join:keeps_meeting", ("join_through_points",)),
+    ("list_spans_met:radius_twice", ()),
+    ("list_spans_met:three_sides", ("read_job",)),
 )
 
 

@@ -1,9 +1,10 @@
 """The second program itself, held to the cases of the scope and of tests/worked.txt that are worked by hand, and to laws that any
 right program keeps: insertion keeps the curve, joining is the Hermite cubic however often its knots stand, removal is what a search over polygons
-finds, feeding is reading what was joined."""
+finds, feeding is reading what was joined, a clamp is widened on all four sides. The try of the third demand is held to wrong lists, which it must tell."""
 
 import sys
 import unittest
+from collections import Counter
 from fractions import Fraction
 from itertools import product
 from pathlib import Path
@@ -15,14 +16,19 @@ from harness.compare import difference
 from harness.shapes import EXPORTED, JOINING, SHAPES, Reader
 from harness.worked import Unreadable, worked_cases
 from second_program import feeding, vectors
-from second_program.broken_cases import broken_jobs, broken_records, changed, fields_of, joined
+from second_program.broken_cases import broken_jobs, broken_records
+from second_program.broken_radii import broken_radii
 from second_program.clamp_cases import random_fraction
-from second_program.curve import Curve, basis, check, domain, exact_point, point_at, span_of, within
+from second_program.curve import FARTHEST, Curve, basis, check, domain, exact_point, point_at, span_of, within
+from second_program.cutter_cases import some_radius, wide_rectangle
+from second_program.cutter_job_cases import wide_job
+from second_program.demands import Broken, try_contacts
 from second_program.dice import Dice
 from second_program.doubled_cases import deciding_places, meeting_at_the_edge, one_at_the_edge, one_unwhole, some_widths, uneven_points, widths_of
 from second_program.expected import WIDE, WORKED_A, WORKED_B, each_one_short
 from second_program.fed_vectors import feed
 from second_program.feed_cases import enough_places, in_bursts
+from second_program.fields import changed, fields_of, joined
 from second_program.insert_cases import insertable
 from second_program.job_cases import good_job, job_of
 from second_program.join_cases import spline_points
@@ -32,9 +38,10 @@ from second_program.long_feed_cases import longest_fields
 from second_program.random_curves import random_curve
 from second_program.record import Fault, clampcheck_text, read_job, read_record, record_of, take_job, take_lone_record
 from second_program.remove_cases import SMOOTH, smooth_joined
-from second_program.spans import list_spans_met
+from second_program.spans import MOST_RADIUS, box, list_spans_met, met, spans
 
 EMPTIEST = bytes([1, 1, 0, 3, 2, 0, 0, 3, 0, 0, 4, 0, 0])  # a record without entries
+NO_RADIUS = bytes([6, 2, 0, 0, 0])  # of a job: a radius of 0
 LONGEST_TRIED = 260  # bytes that a field of a tried record or job lacks at most
 CLAMPS = [(2, 3, 5, 9), (9, 12, 0, 4), (8, 10, 8, 9)]
 TEXT = "curve degree 3 points 4 spans 1\nclamp 1 may meet 0..4\nclamp 2 clear\nclamp 3 may meet 0..4\n"
@@ -107,9 +114,24 @@ class WorkedByHand(unittest.TestCase):
         self.assertEqual(clampcheck_text(job_of(WORKED_A, CLAMPS)), (0, TEXT))
         self.assertEqual(clampcheck_text(b""), (16, "refused 16 at 0\n"))
         self.assertEqual(clampcheck_text(job_of(WORKED_A, []))[1], TEXT[:32])
-        self.assertEqual(read_job(job_of(WORKED_A, CLAMPS), (8, 4, 4, 12)), (0, None, WORKED_A, CLAMPS))
+        self.assertEqual(read_job(job_of(WORKED_A, CLAMPS), (8, 4, 4, 12)), (0, None, WORKED_A, CLAMPS, 0))
         self.assertEqual(read_job(job_of(WORKED_A, CLAMPS), (8, 4, 4, 11))[0], 15)
-        self.assertEqual([list_spans_met(WORKED_A, clamp, (1, 1))[1] for clamp in CLAMPS], [[(0, 4)], [], [(0, 4)]])
+        self.assertEqual([list_spans_met(WORKED_A, clamp, 0, (1, 1))[1] for clamp in CLAMPS], [[(0, 4)], [], [(0, 4)]])
+
+    def test_radius(self):
+        """The end (8, 0) of the worked curve lies 3 and 4 steps from the corner of a clamp."""
+        corner = (11, 20, -9, -4)
+        self.assertEqual([list_spans_met(WORKED_A, corner, radius, (1, 1)) for radius in (5, 3)], [(0, [(0, 4)]), (0, [])])
+        self.assertEqual([list_spans_met(WORKED_A, corner, radius, (1, 1))[0] for radius in (4096, 4097)], [0, 22])
+        self.assertEqual([list_spans_met(WORKED_A, (5, 4, 0, 1), radius, (1, 1))[0] for radius in (4096, 4097)], [14, 22])
+        self.assertEqual([list_spans_met(WORKED_A, corner, radius, (0, 0))[0] for radius in (4096, 4097)], [15, 22])
+        self.assertEqual(list_spans_met(WORKED_A._replace(ys=[0, 8, 8, 262145]), corner, 4097, (0, 0))[0], 7)
+        self.assertEqual(clampcheck_text(job_of(WORKED_A, [corner], 5))[1], TEXT[:32] + "clamp 1 may meet 0..4\n")
+        self.assertEqual(clampcheck_text(job_of(WORKED_A, [corner], 3))[1], TEXT[:32] + "clamp 1 clear\n")
+        self.assertEqual(clampcheck_text(job_of(WORKED_A, CLAMPS, 4097)), (22, "refused 22\n"))
+        self.assertEqual(clampcheck_text(record_of(WORKED_A) + job_of(WORKED_A, CLAMPS)[66:]), (19, "refused 19 at 61\n"))
+        self.assertEqual(clampcheck_text(record_of(WORKED_A)), (16, "refused 16 at 61\n"))
+        self.assertEqual(read_job(job_of(WORKED_A, CLAMPS, 4096), (8, 4, 4, 12)), (0, None, WORKED_A, CLAMPS, 4096))
 
 
 def by_second_program(case):
@@ -126,7 +148,7 @@ def by_second_program(case):
         return make(given[0], bytes(given[1]), given[2], room, case.steps, 0)
     curve, rest = Curve(*given[:4]), given[4:]
     if case.call == "list_spans_met":
-        rest = [tuple(rest)]
+        rest = [tuple(rest[:4]), rest[4]]
     if case.call == "write_record":
         rest = [room[0]]
     elif room:
@@ -219,8 +241,9 @@ def fault_of(take, data):
 
 
 def completes(take, front):
-    """Whether some zeros and the end of the emptiest record, or of a clamp, make the bytes a record, or a job; where any bytes do, some of these do."""
-    ends = [EMPTIEST[at:] for at in range(len(EMPTIEST) + 1)] + [bytes([16]) + bytes(17)]
+    """Whether some zeros and the end of the emptiest record or job, or of a clamp, make the bytes a record, or a job; where any bytes do, some of these do."""
+    emptiest = EMPTIEST + NO_RADIUS * (take is take_job)
+    ends = [emptiest[at:] for at in range(len(emptiest) + 1)] + [bytes([16]) + bytes(17)]
     return any(fault_of(take, front + bytes(zeros) + end) is None for zeros in range(LONGEST_TRIED) for end in ends)
 
 
@@ -327,6 +350,71 @@ class Joined(unittest.TestCase):
             self.assertEqual(join(*meeting_at_the_edge(self.dice, widths, 1), WIDE, TWICE)[0], 7)
 
 
+def moved_by(*steps):
+    """A list of spans that is wrong: of the clamp's sides each is moved by what this makes of the radius."""
+    return lambda curve, clamp, radius: met(curve, [side + step(radius) for side, step in zip(clamp, steps)], 0)
+
+
+def strictly_met(axis):
+    """A list of spans that is wrong: a side shared across this axis alone is no meeting."""
+
+    def listed(curve, clamp, radius):
+        low, high = clamp[2 * axis] - radius, clamp[2 * axis + 1] + radius
+        inside = [i for i in spans(curve) if box(curve, i)[2 * axis] < high and low < box(curve, i)[2 * axis + 1]]
+        return [(curve.knots[i], curve.knots[i + 1]) for i in inside]
+
+    return listed
+
+
+OUTWARD = (lambda radius: -radius, lambda radius: radius) * 2
+STILL = lambda radius: 0
+WRONG_LISTS = dict(
+    unwidened=moved_by(*[STILL] * 4),
+    halved=moved_by(*[lambda radius, step=step: step(radius // 2) for step in OUTWARD]),
+    one_step_less=moved_by(*[lambda radius, step=step: step(max(0, radius - 1)) for step in OUTWARD]),
+    inward=moved_by(*[lambda radius, step=step: -step(radius) for step in OUTWARD]),
+    across_is_open=strictly_met(0),
+    up_is_open=strictly_met(1),
+    **{"still_%d" % k: moved_by(*OUTWARD[:k], STILL, *OUTWARD[k + 1 :]) for k in range(4)},
+)
+
+
+class Widened(unittest.TestCase):
+    """What the radius does to the list of spans, and whether the try of the third demand would tell a wrong list."""
+
+    def setUp(self):
+        self.dice = Dice(3)
+
+    def some(self):
+        for _ in range(200):
+            curve, radius = random_curve(self.dice), some_radius(self.dice)
+            yield curve, wide_rectangle(self.dice, curve, radius), radius
+
+    def test_a_radius_is_a_larger_clamp(self):
+        """The same is listed as for the clamp that is as large already, whether or not the range has room for it."""
+        for curve, clamp, radius in self.some():
+            larger = (clamp[0] - radius, clamp[1] + radius, clamp[2] - radius, clamp[3] + radius)
+            self.assertEqual(met(curve, clamp, radius), met(curve, larger, 0))
+            held = [max(-FARTHEST, min(FARTHEST, side)) for side in larger]
+            self.assertEqual(list_spans_met(curve, clamp, radius, (999, 999)), list_spans_met(curve, held, 0, (999, 999)))
+
+    def test_more_is_listed_for_a_wider_cutter(self):
+        for curve, clamp, radius in self.some():
+            for wider in (radius, radius + 1, MOST_RADIUS):
+                self.assertLessEqual(set(met(curve, clamp, radius)), set(met(curve, clamp, wider)))
+
+    def test_a_wrong_list_is_told(self):
+        for name, listed in {"right": met, **WRONG_LISTS}.items():
+            dice, hits, told = Dice(4), Counter(), 0
+            for _ in range(300):
+                try:
+                    try_contacts(dice, random_curve(dice), hits, listed)
+                except Broken:
+                    told += 1
+            with self.subTest(name):
+                self.assertTrue(told == 0 if name == "right" else told > 5, told)
+
+
 class Laws(unittest.TestCase):
     def setUp(self):
         self.dice = Dice(1)
@@ -353,7 +441,7 @@ class Laws(unittest.TestCase):
 
     def test_a_fault_is_the_leftmost(self):
         """What stands in front of a place can be completed, and with what stands there it cannot: found by a search, not by reading on."""
-        for take, broken in ((take_lone_record, broken_records), (take_job, broken_jobs)):
+        for take, broken in ((take_lone_record, broken_records), (take_job, broken_jobs), (take_job, broken_radii)):
             tried = [one for one in broken(self.dice) if len(one[2]) < 200]
             for number, place, data in tried[:: len(tried) // 40]:
                 with self.subTest(data=data.hex()):
@@ -365,7 +453,8 @@ class Laws(unittest.TestCase):
                     self.assertTrue(place < len(data) if judged else place == len(data))
 
     def test_no_fault_means_a_record(self):
-        for take, broken, again in ((take_lone_record, broken_records, record_of), (take_job, broken_jobs, lambda taken: job_of(*taken))):
+        job_again = lambda taken: job_of(*taken)
+        for take, broken, again in ((take_lone_record, broken_records, record_of), (take_job, broken_jobs, job_again), (take_job, broken_radii, job_again)):
             for _, _, data in broken(self.dice):
                 for at in range(0, len(data), 1 + len(data) // 20):
                     if fault_of(take, data[:at]) is None:
@@ -373,9 +462,9 @@ class Laws(unittest.TestCase):
 
     def test_feeding_is_reading_what_is_joined(self):
         """However the bytes are split and however long the list is; a burst tells nothing."""
-        broken = [data for _, _, data in broken_jobs(self.dice)]
+        broken = [data for _, _, data in (*broken_jobs(self.dice), *broken_radii(self.dice))]
         longest = joined(longest_fields(self.dice))
-        jobs = [job_of(*good_job(self.dice, 3)) for _ in range(40)] + broken[::9] + [longest[:-1], longest, longest + b"\0", longest + longest]
+        jobs = [job_of(*good_job(self.dice, 3)) for _ in range(40)] + [job_of(*wide_job(self.dice, r), r) for r in range(4090, 4100)] + broken[::9] + [longest[:-1], longest, longest + b"\0", longest + longest]
         for data in jobs:
             work, received = bytes(enough_places(self.dice)), 0
             for burst in in_bursts(self.dice, data):
@@ -388,8 +477,8 @@ class Laws(unittest.TestCase):
         """So the end need not know what came when the list was full."""
         fields = longest_fields(self.dice)
         small = fields_of(WORKED_A, CLAMPS)
-        fronts = [joined(changed(fields, k, tag=9)) for k in (0, 3, 67)] + [joined(changed(fields, k, length=15)) for k in (0, 2, 67)]
-        fronts += [joined(fields), joined(fields[:-1] + small), joined(small + fields), joined(fields[:3]) + bytes(9000), joined(small[:4] + fields[4:])]
+        fronts = [joined(changed(fields, k, tag=9)) for k in (0, 3, 4, 68)] + [joined(changed(fields, k, length=15)) for k in (0, 2, 4, 68)]
+        fronts += [joined(fields), joined(fields[:-1] + small), joined(small + fields), joined(fields[:3]) + bytes(9000), joined(small[:4] + fields[4:]), joined(fields[:4] + fields[5:] + fields[-1:])]
         tails = [bytes([byte]) for byte in range(0, 256, 5)] + [joined(small), bytes(40)]
         for front in (front.ljust(feeding.LONGEST_JOB, b"\5")[: feeding.LONGEST_JOB] for front in fronts):
             told = {fault_of(take_job, front + tail) for tail in tails}

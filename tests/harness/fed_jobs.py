@@ -12,7 +12,7 @@ from second_program.vectors import CALLS, u32
 
 from .shapes import Case, Reader
 
-SEED = 11477
+SEED = 11482
 
 
 def job_in(case):

@@ -18,7 +18,8 @@ CURVE = (("degree", "u32"), ("knots", "u16[]"), ("x", "i32[]"), ("y", "i32[]"))
 LISTS = (("knots", "u16"), ("x", "i32"), ("y", "i32"))
 SIDES = tuple((side, "i32") for side in ("low_x", "high_x", "low_y", "high_y"))
 PLACE = (("place", "u32"),)
-JOB = (("degree", "u32"), ("points", "u32"), ("clamps", "u32"))
+RADIUS = (("radius", "u32"),)
+JOB = (("degree", "u32"), ("points", "u32"), *RADIUS, ("clamps", "u32"))
 SIDES_LIST = (("sides", "i32"),)
 SPLINE_POINTS = (("params", "u16[]"), ("px", "i32[]"), ("py", "i32[]"), ("tx", "i32[]"), ("ty", "i32[]"))
 
@@ -44,7 +45,7 @@ SHAPES = dict(
     remove_knot=Shape(CURVE + (("v", "u32"),), (("points", "u32"),), LISTS),
     compact=Shape(CURVE, (("removed", "u32"),), LISTS),
     join_through_points=JOINING,
-    list_spans_met=Shape(CURVE + SIDES, (("spans", "u32"),), (("lows", "u16"), ("highs", "u16"))),
+    list_spans_met=Shape(CURVE + SIDES + RADIUS, (("spans", "u32"),), (("lows", "u16"), ("highs", "u16"))),
     write_record=Shape(CURVE, (("length", "u32"),), (("bytes", "u8"),)),
     read_record=Shape((("bytes", "u8[]"),), (("degree", "u32"), ("points", "u32")), LISTS, broken=PLACE),
     read_job=Shape((("bytes", "u8[]"),), JOB, LISTS + SIDES_LIST, broken=PLACE),

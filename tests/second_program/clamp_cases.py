@@ -76,7 +76,7 @@ def bad_rectangle(dice):
 
 
 def list_spans_met_cases(dice):
-    make = vectors.list_spans_met
+    make = lambda curve, rectangle, room: vectors.list_spans_met(curve, rectangle, 0, room)
     for clamp in ((2, 3, 5, 9), (9, 12, 0, 4), (8, 10, 8, 9)):
         yield expect(0, make(WORKED_A, clamp, (1, 2)))
     for k in range(3 * SUCCESSES):

@@ -1,18 +1,25 @@
-"""The third demand, tried on the curves of the cases: a computed coordinate lies within 2^-30 of the exact one, and where
-an exact point lies in or on a rectangle, a span that holds its parameter is listed."""
+"""The third demand, tried on the curves of the cases: a computed coordinate lies within 2^-30 of the exact one, and where an exact point lies no farther
+from a point of a clamp than the cutter's radius, a span that holds its parameter is listed.
 
+reach_cases.py has the points of clamps, and contacts that are made to lie exactly at the radius."""
+
+from collections import Counter
 from fractions import Fraction
 
 from .clamp_cases import random_fraction
 from .curve import domain, exact_point, point_at
+from .cutter_cases import some_radius
 from .dice import Dice
+from .reach_cases import clamp_points, made_contacts
 from .spans import met
 
 BOUND = Fraction(1, 2**30)
+# How often all cases together have to hit: in a clamp, within the radius of one of its points, exactly at it from a side and from a corner.
+LEAST = dict(inside=6000, within=3000, at_side=2500, at_corner=2500)
 
 
 class Broken(Exception):
-    """A curve on which the demand does not hold."""
+    """A curve on which the demand does not hold, or too few tries to say so."""
 
 
 def try_closeness(curve, t):
@@ -21,13 +28,17 @@ def try_closeness(curve, t):
         raise Broken("the computed point is not close at %d on %r" % (t, curve))
 
 
-def try_listing(curve, clamp, u):
-    """Whether the exact point at u lies in the clamp; then a listed span must hold u."""
-    x, y = exact_point(curve, u)
-    if not (clamp[0] <= x <= clamp[1] and clamp[2] <= y <= clamp[3]):
+def square_of(one, other):
+    """The square of the distance of two points."""
+    return sum((a - b) ** 2 for a, b in zip(one, other))
+
+
+def try_listing(curve, clamp, radius, u, square, listed):
+    """Whether the exact point at u lies within the radius of a point of the clamp, the square of whose distance is given; then a listed span must hold u."""
+    if square > radius**2:
         return False
-    if not any(low <= u <= high for low, high in met(curve, clamp)):
-        raise Broken("no listed span holds %s for clamp %r on %r" % (u, clamp, curve))
+    if not any(low <= u <= high for low, high in listed(curve, clamp, radius)):
+        raise Broken("no listed span holds %s for clamp %r and radius %d on %r" % (u, clamp, radius, curve))
     return True
 
 
@@ -36,20 +47,47 @@ def grid_round(curve, u):
     return [side for c in exact_point(curve, u) for side in (c.__floor__(), c.__ceil__())]
 
 
+def try_points(dice, curve, clamp, radius, u, hits, listed=met):
+    """The points of one clamp against the exact point at u."""
+    exact = exact_point(curve, u)
+    for point in clamp_points(dice, clamp, exact):
+        if try_listing(curve, clamp, radius, u, square_of(exact, point), listed):
+            hits["inside" if point == exact else "within"] += 1
+
+
+def try_contacts(dice, curve, hits, listed=met):
+    """Clamps that the curve passes exactly at the radius, at a side and at a corner."""
+    for kind, passing, clamp, radius, u, point in made_contacts(dice, curve):
+        square = square_of(exact_point(passing, u), point)
+        if square != radius**2 or not try_listing(passing, clamp, radius, u, square, listed):
+            raise Broken("no contact at the radius %d was made on %r" % (radius, passing))
+        hits[kind] += 1
+
+
+def try_case(dice, case, hits):
+    """The number of parameters that were tried; what was hit is counted in hits."""
+    curve = case.curve
+    asked = [*case.asked, *domain(curve), dice.pick(curve.knots), dice.between(*domain(curve))]
+    for t in asked:
+        try_closeness(curve, t)
+    for clamp in case.clamps[:4]:
+        for u in [*domain(curve)] + [random_fraction(dice, curve) for _ in range(3)]:
+            try_points(dice, curve, clamp, case.radius, Fraction(u), hits)
+    u = random_fraction(dice, curve)
+    try_points(dice, curve, grid_round(curve, u), 0, u, hits)
+    try_points(dice, curve, grid_round(curve, random_fraction(dice, curve)), some_radius(dice), u, hits)
+    try_contacts(dice, curve, hits)
+    return len(asked)
+
+
 def try_demands(cases):
-    """The numbers of parameters and of points in clamps that were tried."""
-    dice = Dice(30)
-    near, inside = 0, 0
+    """The number of parameters that were tried, and the hits of each kind."""
+    dice, hits, near = Dice(30), Counter(), 0
     for case in cases:
-        if case.curve is None:
-            continue
-        curve = case.curve
-        for t in [*case.asked, *domain(curve), dice.pick(curve.knots), dice.between(*domain(curve))]:
-            try_closeness(curve, t)
-            near += 1
-        for clamp in case.clamps[:4]:
-            for u in [*domain(curve)] + [random_fraction(dice, curve) for _ in range(3)]:
-                inside += try_listing(curve, clamp, Fraction(u))
-        u = random_fraction(dice, curve)
-        inside += try_listing(curve, grid_round(curve, u), u)
-    return near, inside
+        if case.curve is not None:
+            near += try_case(dice, case, hits)
+    return near, hits
+
+
+def too_few_hits(hits):
+    return ["%d exact points were tried %s" % (hits[kind], kind) for kind, least in LEAST.items() if hits[kind] < least]

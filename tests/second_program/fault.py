@@ -9,8 +9,8 @@ from functools import wraps
 PLANTED = os.environ.get("SECOND_FAULT")
 _answering = []
 
-# Faults beside the one that each call has: of a reader's places, of what it tells first, of what is kept between bursts, and of the points where
-# joined pieces meet.
+# Faults beside the one that each call has: of a reader's places, of what it tells first, of what is kept between bursts, of the points where
+# joined pieces meet, and of the cutter's radius.
 MORE = (
     "read_record:length_place",  # the place of a length told as that of its tag
     "read_record:ended_first",  # 16 where the length is wrong and the contents run out too
@@ -32,6 +32,25 @@ MORE = (
     "join:room_of_three",  # 15 judged by what knots that stand three times need
     "join:last_unjudged",  # 11 and 18 not judged over the last piece
     "join:range_first",  # 18 told before 11
+    "list_spans_met:three_sides",  # a clamp not widened downward
+    "list_spans_met:half_radius",  # widened by half the radius
+    "list_spans_met:strict_when_wide",  # a shared side across x not counted where the clamp is widened
+    "list_spans_met:most_refused",  # 22 for a radius of 4,096
+    "list_spans_met:past_most",  # a radius of 4,097 taken
+    "list_spans_met:radius_last",  # 14 told before 22
+    "read_job:radius_twice",  # two fields of the radius taken
+    "read_job:radius_optional",  # a job without its radius taken
+    "read_job:radius_behind",  # the radius looked for behind the clamps
+    "read_job:radius_untold",  # the radius not handed out
+    "read_job:most_refused",
+    "read_job:past_most",
+    "read_job:radius_last",
+    "clampcheck_text:narrow",  # no clamp widened
+    "clampcheck_text:three_sides",
+    "clampcheck_text:radius_optional",
+    "feed:radius_twice",
+    "feed:radius_untold",
+    "feed:radius_last",
 )
 
 
@@ -69,3 +88,8 @@ def answering(function):
 def planted(fault):
     """Whether the fault of this name is switched on."""
     return PLANTED == fault and bool(_answering)
+
+
+def planted_anywhere(fault):
+    """Whether a fault that several calls can have is switched on, whichever call it is named with."""
+    return PLANTED is not None and PLANTED.partition(":")[2] == fault and bool(_answering)

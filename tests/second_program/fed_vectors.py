@@ -5,7 +5,7 @@ bytes received so far (u64), the capacities of the four lists for a result and, 
 of u8), or a byte 0 for the end.
 
 An answer holds for each step the refusal number (u32) and the count afterwards (u64). Behind an end's stands what `read_job` has behind its number:
-degree, points and clamps, or the place, then the four lists whole; an end finds them as the end before it left them. At last comes the fingerprint
+degree, points, radius and clamps, or the place, then the four lists whole; an end finds them as the end before it left them. At last comes the fingerprint
 of the work list (u64): what is left of it, read as one number low byte first, on division by 2^56 - 5. So no case grows by a whole work list, and one
 expression makes it here.
 """
@@ -42,11 +42,11 @@ def results(curve, clamps):
     return curve.knots, curve.xs, curve.ys, [side for clamp in clamps for side in clamp]
 
 
-def after_end(number, place, curve, clamps, lists):
+def after_end(number, place, curve, clamps, radius, lists):
     """What stands behind the number and the count of an end; its result goes to the front of the lists."""
     counts = ()
     if number == 0:
-        counts = curve.degree, len(curve.xs), len(clamps)
+        counts = curve.degree, len(curve.xs), radius, len(clamps)
         for one, result in zip(lists, results(curve, clamps)):
             one[: len(result)] = result
     return told_of_reading(number, place, *counts) + b"".join(entries(kind, one) for kind, one in zip(KINDS, lists))
@@ -61,8 +61,8 @@ def feed(places, front, received, room, steps, points):
     for step in steps:
         behind, place = b"", None
         if step is END:
-            number, place, curve, clamps, received = feeding.feed_end(work, received, room)
-            behind = after_end(number, place, curve, clamps, lists)
+            number, place, curve, clamps, radius, received = feeding.feed_end(work, received, room)
+            behind = after_end(number, place, curve, clamps, radius, lists)
         else:
             number, work, received = feeding.feed(work, received, step)
         numbers.append(number)

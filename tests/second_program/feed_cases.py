@@ -3,11 +3,12 @@
 long_feed_cases.py has those of inputs that fill the work list."""
 
 from . import vectors
-from .broken_cases import FIELDS, broken_jobs, cut, some_fields, wrong_length, wrong_tag
+from .broken_cases import broken_jobs, cut, some_fields, wrong_length, wrong_tag
 from .clamp_cases import bad_rectangle, random_rectangle
 from .expected import EACH_REFUSAL, WORKED_A, any_room, each_one_short, expect, expect_at, refused_curves, room_for, spare_room
 from .fed_vectors import END, feed
 from .feeding import LONGEST_JOB
+from .fields import CLAMP
 from .job_cases import job_of
 from .long_feed_cases import long_feed_cases
 from .random_curves import random_curve
@@ -89,7 +90,7 @@ def placed_cases(dice):
     judged = {16: 0, 19: 1, 20: 2}  # bytes that are looked at from the place on
     for _ in range(2):
         fields = some_fields(dice, 2)
-        for k in (0, 1, FIELDS, FIELDS + 1):
+        for k in (0, 1, CLAMP, CLAMP + 1):
             for number, place, data in (wrong_tag(fields, k, 9), wrong_length(fields, k, 3), cut(fields, k, dice.between(1, 3))):
                 for end in sorted({len(data), place + judged[number]}):
                     steps = [data[:place], data[place:end], END]

@@ -5,7 +5,7 @@ The bytes of the work list and the count of bytes received are the whole state; 
 from .fault import planted
 from .record import read_job
 
-LONGEST_JOB = 11477  # a work list has at least as many places
+LONGEST_JOB = 11482  # a work list has at least as many places
 
 
 def too_short(work):
@@ -47,9 +47,9 @@ def joined(work, received):
 
 
 def feed_end(work, received, room):
-    """Number, place, curve, clamps and the count after the end."""
+    """Number, place, curve, clamps, radius and the count after the end."""
     if too_short(work):
-        return 15, None, None, None, 0 if planted("feed:forgets") else received
+        return 15, None, None, None, None, 0 if planted("feed:forgets") else received
     told = read_job(joined(work, received), room)
     stale = planted("feed:stale") and told[0] or planted("feed:room_is_room") and told[0] == 15
     return (*told, received if stale else 0)

@@ -1,7 +1,7 @@
 """Cases of `read_job` and of the text of `clampcheck`, and bytes that are no job."""
 
 from . import vectors
-from .broken_cases import at_the_end, broken_jobs, one_past_the_most
+from .broken_cases import at_the_end, broken_jobs, overlong_jobs
 from .clamp_cases import bad_rectangle, good_rectangle
 from .curve import FARTHEST, MOST_POINTS, Curve
 from .expected import (
@@ -18,8 +18,9 @@ from .expected import (
     room_for,
     spare_room,
 )
+from .fields import fields_of, joined, radius_field
 from .random_curves import random_curve, random_knots, spoiled_curve
-from .record import MOST_CLAMPS, field, record_of
+from .record import MOST_CLAMPS, field
 from .record_cases import clamp_fields, damaged_record
 
 
@@ -28,18 +29,18 @@ def good_job(dice, most, m=None):
     return curve, [good_rectangle(dice, curve) for _ in range(dice.between(0, most))]
 
 
-def job_of(curve, clamps):
-    return record_of(curve) + clamp_fields(clamps)
+def job_of(curve, clamps, radius=0):
+    return joined(fields_of(curve, clamps, radius))
 
 
-def longest_job(dice):
+def longest_job(dice, radius=0):
     """1,024 points in small steps, so that each of the 64 clamps meets few spans."""
     axes = [[0], [0]]
     for axis in axes:
         while len(axis) < MOST_POINTS:
             axis.append(axis[-1] + dice.between(-90, 200))
     curve = Curve(3, random_knots(dice, 3, MOST_POINTS, 16383), *axes)
-    return job_of(curve, [good_rectangle(dice, curve) for _ in range(63)] + [(-9, -8, FARTHEST, FARTHEST)])
+    return job_of(curve, [good_rectangle(dice, curve) for _ in range(63)] + [(-9, -8, FARTHEST, FARTHEST)], radius)
 
 
 def damaged_job(dice):
@@ -59,7 +60,7 @@ def damaged_job(dice):
     if kind == 3:
         return data + one[: dice.between(1, len(one) - 1)]
     if kind == 4:
-        return record_of(curve) + clamp_fields([(0, 1, 0, 1)] * 64) + dice.pick((one, bytes(1), bytes([5])))
+        return job_of(curve, [(0, 1, 0, 1)] * 64) + dice.pick((one, bytes(1), bytes([5])))
     if kind == 5:
         return data + dice.pick((one, one + one)) + bytes([dice.between(0, 255)])
     return data + field(5, b"") + one
@@ -83,8 +84,9 @@ def told_or_read(dice, make, successes):
     for _ in range(EACH_REFUSAL):
         curve, clamps = with_bad_clamp(dice)
         yield expect(14, make(job_of(curve, clamps), None, len(curve.xs)))
+    behind = radius_field(0).data() + clamp_fields([(0, 1, 0, 1)])
     for _ in range(EACH_REFUSAL):
-        yield expect_broken(make(damaged_record(dice) + clamp_fields([(0, 1, 0, 1)]), None, 30))
+        yield expect_broken(make(damaged_record(dice) + behind, None, 30))
     for _ in range(2 * EACH_REFUSAL):
         yield expect_broken(make(damaged_job(dice), None, 30))
 
@@ -93,7 +95,7 @@ def broken_job_cases(dice, make):
     """Jobs that break at a known place, and the longest job at its end."""
     for number, place, data in broken_jobs(dice):
         yield expect_at(number, place, make(data, None, 30))
-    for number, place, data in one_past_the_most(dice, 1):
+    for number, place, data in overlong_jobs(dice):
         yield expect_at(number, place, make(data, None, len(data) // 4))
     for number, place, data in at_the_end(longest_job(dice)):
         yield expect_at(number, place, make(data, None, MOST_POINTS))

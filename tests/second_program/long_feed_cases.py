@@ -1,10 +1,11 @@
 """Cases of `feed` with inputs that fill the work list, just not or more than that: the list's end lies in a burst, between two, or behind all."""
 
-from .broken_cases import FIELDS, fields_of, joined, wrong_length, wrong_tag
+from .broken_cases import wrong_length, wrong_tag
 from .curve import MOST_POINTS
 from .expected import each_one_short, expect, expect_at, largest_curve
 from .fed_vectors import END, feed
 from .feeding import LONGEST_JOB
+from .fields import CLAMP, LAST_CLAMP, fields_of, joined
 from .record import MOST_CLAMPS
 
 ROOM = (1028, 1024, 1024, 256)
@@ -33,9 +34,9 @@ def whole_cases(longest):
     """The longest job, in lists that it fills or that are longer."""
     for places, steps in (
         (LONGEST_JOB, [longest]),
-        (LONGEST_JOB, in_parts(longest, 1, 0, 11475) + [b""]),
+        (LONGEST_JOB, in_parts(longest, 1, 0, LONGEST_JOB - 2) + [b""]),
         (LONGEST_JOB + 1, in_equal_parts(longest, 1000)),
-        (20000, in_parts(longest, 11477)),
+        (20000, in_parts(longest, LONGEST_JOB)),
     ):
         yield expect(0, feed(places, b"", 0, ROOM, [*steps, END], MOST_POINTS))
     for short in each_one_short(ROOM)[1::2]:
@@ -51,8 +52,8 @@ def total_cases(longest):
         number, place = (16, total) if total < LONGEST_JOB else (21, LONGEST_JOB) if total > LONGEST_JOB else (15, None)
         for places, steps in (
             (LONGEST_JOB, [data]),
-            (LONGEST_JOB, in_parts(data, 11470, 6, 1, 0, 1)),
-            (LONGEST_JOB + 2, in_parts(data, 5000, 6477)),
+            (LONGEST_JOB, in_parts(data, LONGEST_JOB - 7, 6, 1, 0, 1)),
+            (LONGEST_JOB + 2, in_parts(data, 5000, LONGEST_JOB - 5000)),
         ):
             yield expect_at(number, place, feed(places, b"", 0, LITTLE, [*steps, END], MOST_POINTS))
 
@@ -60,14 +61,14 @@ def total_cases(longest):
 def straddling_cases(longest):
     """The last burst lies across the list's end, however long it is; what does not fit is counted and not kept."""
     for places, fed, extra in (
-        (LONGEST_JOB, 11476, 2),
-        (LONGEST_JOB, 11477, 1),
-        (LONGEST_JOB, 11400, 900),
+        (LONGEST_JOB, LONGEST_JOB - 1, 2),
+        (LONGEST_JOB, LONGEST_JOB, 1),
+        (LONGEST_JOB, LONGEST_JOB - 77, 900),
         (LONGEST_JOB, 0, 12000),
-        (LONGEST_JOB + 1, 11470, 8),
-        (LONGEST_JOB + 1, 11470, 9),
-        (12000, 11477, 523),
-        (12000, 11477, 524),
+        (LONGEST_JOB + 1, LONGEST_JOB - 7, 8),
+        (LONGEST_JOB + 1, LONGEST_JOB - 7, 9),
+        (LONGEST_JOB + 523, LONGEST_JOB, 523),
+        (LONGEST_JOB + 523, LONGEST_JOB, 524),
     ):
         data = (longest + bytes(7 * k % 251 for k in range(1000)))[: fed + extra]
         steps = [*in_parts(data, fed), b"", b"\1\2\3", END]
@@ -76,17 +77,16 @@ def straddling_cases(longest):
 
 def broken_cases(fields):
     """A fault anywhere in an input that fills the list, or more, is told as it is; nothing behind it matters."""
-    last = FIELDS + MOST_CLAMPS - 1
     for extra, (number, place, data) in enumerate(
         (
             wrong_tag(fields, 0, 0),
             wrong_length(fields, 0, 2),
             wrong_length(fields, 1, 2058),
             wrong_tag(fields, 3, 3),
-            wrong_tag(fields, FIELDS, 1),
-            wrong_length(fields, FIELDS + 31, 15),
-            wrong_tag(fields, last, 4),
-            wrong_length(fields, last, 17),
+            wrong_tag(fields, CLAMP, 1),
+            wrong_length(fields, CLAMP + 31, 15),
+            wrong_tag(fields, LAST_CLAMP, 4),
+            wrong_length(fields, LAST_CLAMP, 17),
         )
     ):
         steps = in_parts(data + bytes(extra % 4), place, 1, 9000)

@@ -3,9 +3,9 @@
 import struct
 
 from .curve import Curve, check
-from .fault import planted
+from .fault import planted, planted_anywhere
 from .knots import refused_room
-from .spans import met, rectangle_ok, spans
+from .spans import met, refused_clamps, spans
 
 MOST_KNOT_BYTES = 2056
 MOST_COORDINATE_BYTES = 4096
@@ -102,16 +102,37 @@ def take_lone_record(data):
     return curve
 
 
-def take_job(data):
-    """The curve and the clamps, or the Fault."""
-    curve, at = take_record(data)
+def take_radius(data, at):
+    """The cutter's radius at this place and the place behind its field, or the Fault."""
+    if planted_anywhere("radius_optional") and data[at : at + 1] != b"\6":
+        return 0, at
+    contents, at = take_field(data, at, 6, lambda length: length == 2)
+    return struct.unpack("<H", contents)[0], at
+
+
+def take_clamps(data, at):
+    """The clamps from this place to the end, or the Fault; and the end."""
     clamps = []
     while at < len(data):
+        if planted_anywhere("radius_behind") and data[at] == 6:
+            break
         if len(clamps) == MOST_CLAMPS:
             raise Fault(19 if planted("read_job:left_over") else 21, at)
         contents, at = take_field(data, at, 5, lambda length: length == 16)
         clamps.append(struct.unpack("<4i", contents))
-    return curve, clamps
+    return clamps, at
+
+
+def take_job(data):
+    """The curve, the clamps and the cutter's radius, or the Fault."""
+    curve, at = take_record(data)
+    if planted_anywhere("radius_behind"):
+        clamps, at = take_clamps(data, at)
+        return curve, clamps, take_radius(data, at)[0]
+    radius, at = take_radius(data, at)
+    if planted_anywhere("radius_twice") and data[at : at + 1] == b"\6":
+        radius, at = take_radius(data, at)
+    return curve, take_clamps(data, at)[0], radius
 
 
 def read_record(data, room):
@@ -124,27 +145,24 @@ def read_record(data, room):
 
 
 def judged_job(data):
-    """Number without 15, place, curve and clamps: 16 and 19 to 21 over all, then 1 to 7, then 14."""
+    """Number without 15, place, curve, clamps and radius: 16 and 19 to 21 over all, then 1 to 7, then 22, then 14."""
     try:
-        curve, clamps = take_job(data)
+        curve, clamps, radius = take_job(data)
     except Fault as fault:
-        return fault.number, fault.place, None, None
+        return fault.number, fault.place, None, None, None
     if planted("read_job"):
         clamps = clamps[:1]
-    number = check(curve)
-    if not number and not all(rectangle_ok(clamp) for clamp in clamps):
-        number = 14
-    return number, None, curve, clamps
+    return check(curve) or refused_clamps(radius, clamps), None, curve, clamps, radius
 
 
 def read_job(data, room):
-    """Number, place, curve and clamps; room is for knots, x, y and the clamps' numbers, four each."""
-    number, place, curve, clamps = judged_job(data)
+    """Number, place, curve, clamps and radius; room is for knots, x, y and the clamps' numbers, four each."""
+    number, place, curve, clamps, radius = judged_job(data)
     if not number:
         number = refused_room(curve, room[:3])
     if not number and room[3] < 4 * len(clamps):
         number = 15
-    return number, place, curve, clamps
+    return number, place, curve, clamps, 0 if planted_anywhere("radius_untold") else radius
 
 
 def refusal_text(number, place):
@@ -156,12 +174,12 @@ def refusal_text(number, place):
 
 def clampcheck_text(data):
     """Number and what the program prints."""
-    number, place, curve, clamps = judged_job(data)
+    number, place, curve, clamps, radius = judged_job(data)
     if number:
         return number, refusal_text(number, place)
     lines = ["curve degree %d points %d spans %d" % (curve.degree, len(curve.xs), len(spans(curve)))]
     for place, clamp in enumerate(clamps, 0 if planted("clampcheck_text") else 1):
-        hits = met(curve, clamp)
+        hits = met(curve, clamp, 0 if planted("clampcheck_text:narrow") else radius)
         lines += ["clamp %d may meet %d..%d" % (place, low, high) for low, high in hits]
         if not hits:
             lines.append("clamp %d clear" % place)

@@ -1,7 +1,7 @@
 """Cases of `write_record` and `read_record`, and bytes that are no record."""
 
 from . import vectors
-from .broken_cases import at_the_end, broken_records, one_past_the_most
+from .broken_cases import at_the_end, broken_records, overlong_records
 from .curve import MOST_POINTS, Curve
 from .expected import (
     EACH_REFUSAL,
@@ -20,6 +20,7 @@ from .expected import (
     spare_room,
     too_many_points,
 )
+from .fields import clamp_field, joined
 from .random_curves import random_curve, spoiled_curve
 from .record import PLACED, field, read_record, record_of
 
@@ -108,7 +109,7 @@ def hollow_record(dice):
 
 
 def clamp_fields(clamps):
-    return b"".join(field(5, b"".join(side.to_bytes(4, "little", signed=True) for side in clamp)) for clamp in clamps)
+    return joined(map(clamp_field, clamps))
 
 
 def read_record_cases(dice):
@@ -141,7 +142,7 @@ def broken_record_cases(dice):
     make = vectors.read_record
     for number, place, data in broken_records(dice):
         yield expect_at(number, place, make(data, any_room(dice, 3), 30))
-    for number, place, data in one_past_the_most(dice, 0):
+    for number, place, data in overlong_records(dice):
         yield expect_at(number, place, make(data, any_room(dice, 3), len(data) // 4))
     for number, place, data in at_the_end(record_of(largest_curve(dice, 3))):
         yield expect_at(number, place, make(data, any_room(dice, 3), MOST_POINTS))

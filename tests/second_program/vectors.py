@@ -1,16 +1,16 @@
 """How a case and its answer stand in the files; all numbers low byte first.
 
 A case is its length in 4 bytes and a body: the call's number in 1 byte, then the arguments. A list is its count in 4 bytes
-and its entries (u8, u16 or i32); degree, t, v, a capacity and an axis (0 is x) are u32, a rectangle is four i32. The curve
+and its entries (u8, u16 or i32); degree, t, v, a radius, a capacity and an axis (0 is x) are u32, a rectangle is four i32. The curve
 comes first, what the call names beside it next, capacities last.
 A lent result list is given by its capacity alone: before the call entry k of it holds 7k + 13 (u16), 9k - 5 (i32) or
 (5k + 3) mod 256 (u8), and the number lent to `carrying` holds 77.
 
 An answer is the refusal number in 4 bytes, 0 for none. After a success the answer's values follow: floats by their 8 bytes,
-the number of points, spans or bytes as u32, of `compact` the number removed, of a reader the degree and the counts. Behind a
-reader's 16, 19, 20 or 21, and behind no other number, stands the place as u32. Then
-comes every lent result list whole, as it stands after the call. `carrying` has the lent number, then the count and the
-entries of the part. The text of `clampcheck` stands behind its number with a byte 0 after it.
+the number of points, spans or bytes as u32, of `compact` the number removed, of a reader the degree and the counts, a job's
+radius between that of the points and that of the clamps. Behind a reader's 16, 19, 20 or 21, and behind no other number,
+stands the place as u32. Then comes every lent result list whole, as it stands after the call. `carrying` has the lent number,
+then the count and the entries of the part. The text of `clampcheck` stands behind its number with a byte 0 after it.
 
 A case of `feed` is several calls: fed_vectors.py tells how it stands.
 """
@@ -51,6 +51,7 @@ class Case(NamedTuple):
     curve: Optional[curves.Curve] = None  # what was accepted, with the parameters and rectangles that were asked
     asked: Sequence = ()
     clamps: Sequence = ()
+    radius: int = 0
     place: Optional[int] = None  # where the bytes break, if they do
     numbers: Sequence = ()  # what each of its calls answers; all but `feed` have one
 
@@ -82,9 +83,9 @@ def after(kind, room, result):
     return entries(kind, list(result) + [before(kind, k) for k in range(len(result), room)])
 
 
-def case(call, number, arguments, answer, points, curve=None, asked=(), clamps=(), place=None):
+def case(call, number, arguments, answer, points, curve=None, asked=(), clamps=(), radius=0, place=None):
     body = bytes([CALLS.index(call) + 1]) + arguments
-    return Case(call, number, body, u32(number) + answer, points, None if number else curve, asked, clamps, place, (number,))
+    return Case(call, number, body, u32(number) + answer, points, None if number else curve, asked, clamps, radius, place, (number,))
 
 
 def size(curve):
@@ -163,13 +164,13 @@ def join(params, px, py, tx, ty, room):
 
 
 @answering
-def list_spans_met(curve, rectangle, room):
-    number, hits = spans.list_spans_met(curve, rectangle, room)
+def list_spans_met(curve, rectangle, radius, room):
+    number, hits = spans.list_spans_met(curve, rectangle, radius, room)
     counts = u32(len(hits)) if number == 0 else b""
     result = hits if number == 0 else []
     lists = after("u16", room[0], [low for low, _ in result]) + after("u16", room[1], [high for _, high in result])
-    arguments = curve_bytes(curve) + struct.pack("<4i", *rectangle) + u32(*room)
-    return case("list_spans_met", number, arguments, counts + lists, size(curve), curve, (), [rectangle])
+    arguments = curve_bytes(curve) + struct.pack("<4i", *rectangle) + u32(radius, *room)
+    return case("list_spans_met", number, arguments, counts + lists, size(curve), curve, (), [rectangle], radius)
 
 
 @answering
@@ -197,12 +198,13 @@ def read_record(data, room, points):
 
 @answering
 def read_job(data, room, points):
-    number, place, curve, clamps = record.read_job(data, room)
-    counts = (curve.degree, len(curve.xs), len(clamps)) if number == 0 else ()
+    number, place, curve, clamps, radius = record.read_job(data, room)
+    counts = (curve.degree, len(curve.xs), radius, len(clamps)) if number == 0 else ()
     sides = [side for clamp in clamps for side in clamp] if number == 0 else []
     lists = lists_after(number, curve, room[:3]) + after("i32", room[3], sides)
     arguments = lent_list("u8", list(data)) + u32(*room)
-    return case("read_job", number, arguments, told_of_reading(number, place, *counts) + lists, points, curve, (), clamps, place)
+    answer = told_of_reading(number, place, *counts) + lists
+    return case("read_job", number, arguments, answer, points, curve, (), clamps, radius, place)
 
 
 @answering
