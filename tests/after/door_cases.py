@@ -58,8 +58,8 @@ def last_of(case, name):
 
 
 def tried_answers(cases):
-    """The index of an answer and a byte of it: both ends of one of each call, the place in one of each reader's refusals that have one, and the number
-    and the count of a feeding's last step."""
+    """The index of an answer and a byte of it: both ends of one of each call, the place in one of each reader's refusals that have one, the number
+    and the count of a feeding's last step, and the radius of a job that is read and of one that is fed."""
     for call in EXPORTED:
         at = next(k for k, case in enumerate(cases) if case.call == call)
         yield at, 0
@@ -69,6 +69,9 @@ def tried_answers(cases):
             at = next(k for k, case in enumerate(cases) if case.call == call and case.numbers[-1] == number)
             for name in ("place",) if call != "feed" else ("place", "received", NUMBER):
                 yield at, last_of(cases[at], name)
+    for call in ("read_job", "feed"):
+        at = next(k for k, case in enumerate(cases) if case.call == call and last_of(case, "radius") is not None)
+        yield at, last_of(cases[at], "radius")
 
 
 def comparison_is_blind(cases):

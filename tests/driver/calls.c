@@ -177,10 +177,11 @@ static uint32_t spans(void)
     int32_t side[4];
     for (int k = 0; k < 4; k++)
         side[k] = (int32_t)take_number();
+    uint32_t radius = take_number();
     size_t lows_len, highs_len;
     uint16_t *lows = take_places("lows", 2, &lows_len), *highs = take_places("highs", 2, &highs_len);
     size_t *count = lend_number("count", sizeof *count);
-    uint32_t refusal = tsb_spans(GIVEN(c), side[0], side[1], side[2], side[3], lows, lows_len, highs, highs_len, count);
+    uint32_t refusal = tsb_spans(GIVEN(c), side[0], side[1], side[2], side[3], radius, lows, lows_len, highs, highs_len, count);
     put_number(refusal);
     if (refusal == TSB_OK)
         put_count(*count);
@@ -228,14 +229,15 @@ static uint32_t read_job(void)
     const uint8_t *bytes = take_list("bytes", 1, &bytes_len);
     struct result r = take_result();
     int32_t *clamps = take_places("clamps", 4, &clamps_len);
-    uint32_t *degree = lend_number("degree", sizeof *degree);
+    uint32_t *degree = lend_number("degree", sizeof *degree), *radius = lend_number("radius", sizeof *radius);
     size_t *points = lend_number("points", sizeof *points), *count = lend_number("clamp_count", sizeof *count);
     size_t *place = lend_place("place");
-    uint32_t refusal = tsb_read_job(bytes, bytes_len, PLACES(r), clamps, clamps_len, degree, points, count, place);
+    uint32_t refusal = tsb_read_job(bytes, bytes_len, PLACES(r), clamps, clamps_len, degree, points, radius, count, place);
     put_number(refusal);
     if (refusal == TSB_OK) {
         put_number(*degree);
         put_count(*points);
+        put_number(*radius);
         put_count(*count);
     }
     if (has_place(refusal))

@@ -91,6 +91,7 @@ static void burst(void)
         lend_list(k, 0);
     lend_number("degree", sizeof(uint32_t));
     lend_number("points", sizeof(size_t));
+    lend_number("radius", sizeof(uint32_t));
     lend_number("clamp_count", sizeof(size_t));
     lend_place("place");
     put_number(tsb_feed(lent_burst, burst_len, lent_work, work.count, count));
@@ -105,17 +106,18 @@ static uint32_t end(void)
     void *lent[LISTS];
     for (int k = 0; k < LISTS; k++)
         lent[k] = lend_list(k, 1);
-    uint32_t *degree = lend_number("degree", sizeof *degree);
+    uint32_t *degree = lend_number("degree", sizeof *degree), *radius = lend_number("radius", sizeof *radius);
     size_t *points = lend_number("points", sizeof *points), *clamp_count = lend_number("clamp_count", sizeof *clamp_count);
     size_t *place = lend_place("place"), *count = lend_open("received", &received, 1, sizeof received);
     uint32_t refusal = tsb_feed_end(
         lent_work, work.count, lent[KNOTS], lists[KNOTS].count, lent[XS], lists[XS].count, lent[YS], lists[YS].count,
-        lent[CLAMPS], lists[CLAMPS].count, degree, points, clamp_count, place, count);
+        lent[CLAMPS], lists[CLAMPS].count, degree, points, radius, clamp_count, place, count);
     put_number(refusal);
     put_large(*count);
     if (refusal == TSB_OK) {
         put_number(*degree);
         put_count(*points);
+        put_number(*radius);
         put_count(*clamp_count);
     }
     if (has_place(refusal))
