@@ -2,7 +2,8 @@
 second program's answer; the outcomes that matter most are written out here besides.
 
 Every cut and every byte of two jobs changed in three ways, a full job at its end, jobs that break in every other way, each refusal that a
-job can reach, the longest job and one byte more, the longest text, input in pieces, an empty pipe, a closed and an unreadable standard input.
+job can reach, cutters that just reach a clamp or do not, the longest job and one byte more, the longest text, input in pieces, an empty pipe, a
+closed and an unreadable standard input.
 Of every job that is handed over at once, tools/job.py explain must tell the number and the place that clampcheck printed. At the end the
 comparison itself is tried: programs that print nothing, one fixed text, or every place one too far must be noticed.
 """
@@ -23,15 +24,18 @@ sys.path[:0] = [str(TOP / "tools"), str(TOP / "tests")]
 import program  # noqa: E402
 from harness.explained import disagreement  # noqa: E402
 from second_program.broken_cases import broken_jobs  # noqa: E402
+from second_program.broken_radii import broken_radii  # noqa: E402
 from second_program.curve import Curve  # noqa: E402
+from second_program.cutter_cases import some_radius  # noqa: E402
+from second_program.cutter_job_cases import wide_job  # noqa: E402
 from second_program.dice import Dice  # noqa: E402
 from second_program.job_cases import damaged_job, good_job, job_of, longest_job, with_bad_clamp  # noqa: E402
 from second_program.random_curves import spoiled_curve  # noqa: E402
-from second_program.record import clampcheck_text, record_of  # noqa: E402
+from second_program.record import clampcheck_text  # noqa: E402
 
 TIMEOUT = 40
 MOST_SECONDS = 150
-LONGEST = 11477
+LONGEST = 11482
 LONGEST_OF_CLAMP = 31713
 CURVE_A = Curve(3, [0, 0, 0, 0, 4, 4, 4, 4], [0, 0, 8, 8], [0, 8, 8, 0])
 WORKED = job_of(CURVE_A, [(2, 3, 5, 9), (9, 12, 0, 4), (8, 10, 8, 9)])
@@ -41,11 +45,13 @@ clamp 2 clear
 clamp 3 may meet 0..4
 """
 NO_BYTES = "refused 16 at 0\n"
-ONE_MORE = "refused 21 at 11477\n"
+ONE_MORE = "refused 21 at 11482\n"
 MASKS = (0x01, 0x80, 0xFF)
 OTHER_CURVE = Curve(2, [0, 0, 0, 300, 4000, 4000, 4000], [-5, 70000, -262144, 262144], [1000, -1, 65536, 0])
-OTHER = job_of(OTHER_CURVE, [(-70000, -300, 2, 65536), (0, 0, 0, 0)])
+OTHER = job_of(OTHER_CURVE, [(-70000, -300, 2, 65536), (0, 0, 0, 0)], 300)
 FULL = job_of(CURVE_A, [(9, 12, 0, 4)] * 64)
+RECORD, CLAMPS = WORKED[:61], WORKED[66:]  # of the worked job; the radius stands between them
+CORNER = (11, 20, -9, -4)  # the curve ends 3 and 4 steps from it, so 5 away
 
 
 def expected(job):
@@ -110,19 +116,61 @@ def refusals():
         yield "refused %d" % numbers[name], job_of(curve, [(9, 2, 0, 0)])
     yield "refused 14", job_of(CURVE_A, [(2, 3, 5, 9), (3, 2, 5, 9)])
     yield "refused 14", job_of(CURVE_A, [(2, 3, 5, 262145)])
+    yield "refused 14", job_of(CURVE_A, [(3, 2, 5, 9)], 4096)
     yield "refused 19 at 4", WORKED[:4] + b"\7" + WORKED[5:]
-    yield "refused 19 at 118", WORKED + b"\0"
-    yield "refused 19 at 61", job_of(CURVE_A._replace(degree=9), []) + b"\6\0\0"
+    yield "refused 19 at 123", WORKED + b"\0"
+    yield "refused 19 at 66", job_of(CURVE_A._replace(degree=9), []) + b"\6\0\0"
     yield "refused 20 at 1", b"\1\0\0" + WORKED[3:]
     yield "refused 20 at 5", WORKED[:5] + b"\x0f" + WORKED[6:]
     yield "refused 20 at 5", WORKED[:5] + b"\x0f\0"
     yield "refused 16 at 6", WORKED[:5] + b"\x0f"
-    yield "refused 16 at 81", job_of(CURVE_A, [(3, 2, 0, 0)]) + b"\5"
-    yield "refused 16 at 117", WORKED[:-1]
-    yield "refused 19 at 1258", FULL[:-19] + b"\0"
-    yield "refused 20 at 1259", FULL[:-18] + b"\x11" + FULL[-17:]
-    yield "refused 21 at 1277", FULL + b"\0"
-    yield "refused 21 at 1277", FULL + b"\5"
+    yield "refused 16 at 86", job_of(CURVE_A, [(3, 2, 0, 0)]) + b"\5"
+    yield "refused 16 at 122", WORKED[:-1]
+    yield "refused 19 at 1263", FULL[:-19] + b"\0"
+    yield "refused 20 at 1264", FULL[:-18] + b"\x11" + FULL[-17:]
+    yield "refused 21 at 1282", FULL + b"\0"
+    yield "refused 21 at 1282", FULL + b"\5"
+
+
+def refusals_of_radius():
+    """The same for the cutter's radius: too large, with faults that are told before it or behind it, missing, doubled, cut and of a wrong length."""
+    yield "refused 22", job_of(CURVE_A, [(2, 3, 5, 9)], 4097)
+    yield "refused 22", job_of(CURVE_A, [], 65535)
+    yield "refused 22", job_of(CURVE_A, [(3, 2, 5, 9)], 4097)
+    yield "refused 7", job_of(CURVE_A._replace(xs=[0, 0, 8, 262145]), [(2, 3, 5, 9)], 4097)
+    yield "refused 19 at 66", job_of(CURVE_A, [], 4097) + b"\0"
+    yield "refused 21 at 1282", job_of(CURVE_A, [(9, 12, 0, 4)] * 64, 4097) + b"\6"
+    yield "refused 19 at 61", RECORD + CLAMPS
+    yield "refused 16 at 61", RECORD
+    yield "refused 19 at 66", WORKED[:66] + WORKED[61:66] + CLAMPS
+    yield "refused 19 at 61", RECORD + CLAMPS + WORKED[61:66]
+    yield "refused 19 at 123", WORKED + WORKED[61:66]
+    for kept in range(1, 5):
+        yield "refused 16 at %d" % (61 + kept), WORKED[: 61 + kept]
+    for length in (0, 1, 3, 4):
+        yield "refused 20 at 62", RECORD + bytes([6, length, 0]) + bytes(length) + CLAMPS
+    yield "refused 20 at 62", RECORD + b"\6\0\2\0\0" + CLAMPS
+
+
+def texts():
+    """Jobs that are taken, with the text that is right, worked out by hand: the curve's end, its box, and a clamp at the end of the range."""
+    first = WORKED_TEXT.splitlines(True)[0]
+    met, clear = "clamp 1 may meet 0..4\n", "clamp 1 clear\n"
+    yield "the worked job", WORKED, WORKED_TEXT
+    yield "no clamps and a radius", job_of(CURVE_A, [], 4096), first
+    for radius, line in ((0, clear), (3, clear), (4, met), (5, met), (4096, met)):
+        yield "a corner 5 away and radius %d" % radius, job_of(CURVE_A, [CORNER], radius), first + line
+    yield "the largest radius", job_of(CURVE_A, [(4104, 4104, 0, 0)], 4096), first + met
+    yield "a step more", job_of(CURVE_A, [(4105, 4105, 0, 0)], 4096), first + clear
+    line = Curve(1, [0, 0, 4, 4], [0, 258048], [0, 0])
+    for radius, told in ((4096, met), (4095, clear)):
+        yield "a clamp at the end of the range and radius %d" % radius, job_of(line, [(262144, 262144, 0, 0)], radius), (
+            "curve degree 1 points 2 spans 1\n" + told
+        )
+
+
+def written_refusals():
+    return [*refusals(), *refusals_of_radius()]
 
 
 def longest_text():
@@ -149,11 +197,11 @@ def jobs():
     yield from damaged("the worked job", WORKED, range(len(WORKED)))
     yield from damaged("another job", OTHER, range(len(OTHER)))
     yield from damaged("a full job", FULL, range(len(FULL) - 22, len(FULL)))
-    for number, place, job in list(broken_jobs(Dice(8)))[::3]:
+    for number, place, job in [*list(broken_jobs(Dice(8)))[::3], *list(broken_radii(Dice(9)))[::2]]:
         yield "a job with fault %d at %d" % (number, place), job
-    for line, job in refusals():
+    for line, job in written_refusals():
         yield line, job
-    yield "no clamps", record_of(CURVE_A)
+    yield "no clamps", job_of(CURVE_A, [])
     several = Curve(2, [0, 0, 0, 2, 4, 6, 6, 6], [0, 4, 8, 12, 16], [0, 8, 8, 8, 0])
     yield "a clamp that meets several spans", job_of(several, [(5, 9, 6, 9), (20, 30, 0, 9), (0, 16, 8, 8)])
     longest = longest_job(Dice(7))
@@ -168,6 +216,9 @@ def jobs():
         yield "damaged job %d" % k, damaged_job(dice)
         yield "bad clamp %d" % k, job_of(*with_bad_clamp(dice))
         yield "bad curve %d" % k, job_of(spoiled_curve(dice, 1 + k % 7, byte=True), [(0, 1, 0, 1)])
+        radius = some_radius(dice)
+        yield "wide job %d" % k, job_of(*wide_job(dice, radius), radius)
+        yield "too wide job %d" % k, job_of(*wide_job(dice, radius), 4097 + 97 * k)
 
 
 def runs(words):
@@ -175,14 +226,15 @@ def runs(words):
     for name, job in jobs():
         yield name, lambda job=job: whole(words, job), expected(job), job
     longest = longest_job(Dice(7))
-    written_out = [("%s, written out" % line, job, line + "\n") for line, job in refusals()]
-    written_out += [("the worked job, written out", WORKED, WORKED_TEXT), ("nothing, written out", b"", NO_BYTES)]
+    written_out = [("%s, written out" % line, job, line + "\n") for line, job in written_refusals()]
+    written_out += [("%s, written out" % name, job, text) for name, job, text in texts()] + [("nothing, written out", b"", NO_BYTES)]
     written_out += [("one byte more, written out", longest + b"\5", ONE_MORE)]
     for name, job, right in written_out:
         yield name, lambda job=job: whole(words, job), right, job
     for name, run, right in (
         ("the worked job byte by byte", lambda: in_pieces(words, WORKED, 1, 0.002), WORKED_TEXT),
         ("the worked job in sevens", lambda: in_pieces(words, WORKED, 7, 0.01), WORKED_TEXT),
+        ("a radius cut between its bytes", lambda: in_pieces(words, job_of(CURVE_A, [], 4097), 65, 0.01), "refused 22\n"),
         ("a broken job in fives", lambda: in_pieces(words, WORKED[:42] + b"\3" + WORKED[43:], 5, 0.01), "refused 19 at 42\n"),
         ("the longest job in pieces", lambda: in_pieces(words, longest, 997, 0.005), expected(longest)),
         ("one byte more in pieces", lambda: in_pieces(words, longest + b"\0", 4096, 0.005), ONE_MORE),
@@ -227,7 +279,7 @@ def comparison_is_blind(chosen, answers):
 
 def main():
     began = time.monotonic()
-    assert len(WORKED) == 118 and len(OTHER) == 97 and len(FULL) == 1277, "the jobs are not the ones that are meant"
+    assert len(WORKED) == 123 and len(OTHER) == 102 and len(FULL) == 1282, "the jobs are not the ones that are meant"
     assert len(longest_job(Dice(7))) == LONGEST and expected(OTHER).startswith("curve degree 2 "), "the jobs are not the ones that are meant"
     of_last = [line for line in expected(longest_text()).splitlines(True) if line.startswith("clamp 64 ")]
     assert sum(map(len, of_last)) == LONGEST_OF_CLAMP, "the longest text is not the one that is meant"

@@ -13,6 +13,7 @@ sys.path[:0] = [str(pathlib.Path(__file__).resolve().parents[1])]
 
 from pretended import TOP, Folder  # noqa: E402
 from second_program.broken_cases import broken_jobs  # noqa: E402
+from second_program.broken_radii import broken_radii  # noqa: E402
 from second_program.curve import Curve  # noqa: E402
 from second_program.dice import Dice  # noqa: E402
 from second_program.job_cases import damaged_job, good_job, job_of, longest_job, with_bad_clamp  # noqa: E402
@@ -24,7 +25,10 @@ CURVE = Curve(3, [0, 0, 0, 0, 4, 4, 4, 4], [0, 0, 8, 8], [0, 8, 8, 0])
 
 def jobs():
     """Jobs with names, of every status."""
-    yield "no clamps", record_of(CURVE)
+    yield "no clamps", job_of(CURVE, [])
+    yield "no radius", record_of(CURVE)
+    yield "a clamp that the cutter does not reach", job_of(CURVE, [(11, 20, -9, -4)], 3)
+    yield "a clamp that the cutter may reach", job_of(CURVE, [(11, 20, -9, -4)], 5)
     yield "clear clamps", job_of(CURVE, [(9, 12, 0, 4), (0, 8, 9, 10)])
     yield "64 clear clamps", job_of(CURVE, [(9, 12, 0, 4)] * 64)
     yield "a clamp that may be met", job_of(CURVE, [(9, 12, 0, 4), (8, 10, 8, 9)])
@@ -36,7 +40,8 @@ def jobs():
     for k in range(1, 8):
         yield "refusal %d" % k, job_of(spoiled_curve(dice, k, byte=True), [])
     yield "refusal 14", job_of(*with_bad_clamp(dice))
-    for number, place, job in list(broken_jobs(dice))[::17]:
+    yield "refusal 22", job_of(CURVE, [(9, 12, 0, 4)], 4097)
+    for number, place, job in [*list(broken_jobs(dice))[::17], *list(broken_radii(dice))[::17]]:
         yield "refusal %d at %d" % (number, place), job
     for k in range(6):
         yield "job %d" % k, job_of(*good_job(dice, 3))
@@ -57,7 +62,7 @@ def real():
         assert (ended.returncode, ended.stdout.decode()) == (status, text), "%s: %r" % (name, ended)
         assert (status == 2) == ended.stderr.startswith(text.encode()[:-1] + b": "), "%s: %r" % (name, ended.stderr)
         seen |= {status, clampcheck_text(job)[0]}
-    assert seen >= {0, 1, 2, *PLACED}, "a status or a refusal is not reached: %s" % seen
+    assert seen >= {0, 1, 2, 22, *PLACED}, "a status or a refusal is not reached: %s" % seen
     missing = subprocess.run([TOP / "tools" / "clampcheck", "/nowhere/sign.job"], capture_output=True)
     assert missing.returncode == 3 and not missing.stdout, "a missing file: %r" % missing
 
