@@ -24,7 +24,7 @@ def extent(curve):
     return min(curve.xs), max(curve.xs), min(curve.ys), max(curve.ys)
 
 
-def answered(curve, rectangle, radius, dice):
+def answered(dice, curve, rectangle, radius):
     return expect(0, vectors.list_spans_met(curve, rectangle, radius, spare_room(dice, [len(spans(curve))] * 2)))
 
 
@@ -58,10 +58,10 @@ def side_cases(dice):
             for off in (0, 1):
                 curve = random_curve(dice, reach=dice.pick((2, 900, FARTHEST - 9000)))
                 clamp = beyond(curve, axis, direction, radius + off, dice.pick((0, 1, 70)))
-                yield expect_listed(off == 0, answered(curve, clamp, radius, dice))
+                yield expect_listed(off == 0, answered(dice, curve, clamp, radius))
                 small = random_curve(dice, reach=dice.pick((2, 900, 9000)))
                 last = moved_to(small, axis, direction, direction * (FARTHEST - radius - off))
-                yield expect_listed(off == 0, answered(last, beyond(last, axis, direction, radius + off, 0), radius, dice))
+                yield expect_listed(off == 0, answered(dice, last, beyond(last, axis, direction, radius + off, 0), radius))
 
 
 def cornered(x, y, a, b, quadrant):
@@ -84,17 +84,17 @@ def corner_cases(dice):
     for quadrant in QUADRANTS:
         for a, b, c in CORNERS:
             curve, x, y = ending_at_corner(dice, quadrant)
-            yield expect_listed(True, answered(curve, cornered(x, y, a, b, quadrant), c, dice))
+            yield expect_listed(True, answered(dice, curve, cornered(x, y, a, b, quadrant), c))
         a, b, c = dice.pick(CORNERS[:5])
         clamp = cornered(x, y, a, b, quadrant)
         for more in ((1, 0), (0, 1)):
-            yield answered(curve, cornered(x, y, a + more[0], b + more[1], quadrant), c, dice)
-        yield expect_listed(True, answered(curve, clamp, max(a, b), dice))
-        yield expect_listed(False, answered(curve, clamp, max(a, b) - 1, dice))
+            yield answered(dice, curve, cornered(x, y, a + more[0], b + more[1], quadrant), c)
+        yield expect_listed(True, answered(dice, curve, clamp, max(a, b)))
+        yield expect_listed(False, answered(dice, curve, clamp, max(a, b) - 1))
         radius = dice.pick((1, 7, MOST_RADIUS))
         for far, listed in ((0, True), (1, False)):
             clamp = cornered(x, y, radius + far, radius, quadrant)
-            yield expect_listed(listed, answered(curve, clamp, radius, dice))
+            yield expect_listed(listed, answered(dice, curve, clamp, radius))
 
 
 def touching_when_widened(dice, curve, radius):
@@ -114,12 +114,12 @@ def wide_rectangle(dice, curve, radius):
 def some_cases(dice):
     for k in range(80):
         curve, radius = random_curve(dice, m=1 + k % 3), some_radius(dice)
-        yield answered(curve, wide_rectangle(dice, curve, radius), radius, dice)
+        yield answered(dice, curve, wide_rectangle(dice, curve, radius), radius)
     for side in (-FARTHEST, FARTHEST):
         curve = random_curve(dice, reach=FARTHEST)
         for clamp in ((side, side, side, side), (side, side, -FARTHEST, FARTHEST), (-FARTHEST, FARTHEST, side, side)):
-            yield answered(curve, clamp, MOST_RADIUS, dice)
-    yield expect_listed(True, answered(curve, (-FARTHEST, FARTHEST, -FARTHEST, FARTHEST), MOST_RADIUS, dice))
+            yield answered(dice, curve, clamp, MOST_RADIUS)
+    yield expect_listed(True, answered(dice, curve, (-FARTHEST, FARTHEST, -FARTHEST, FARTHEST), MOST_RADIUS))
 
 
 def refused_cases(dice):
