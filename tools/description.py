@@ -1,4 +1,4 @@
-"""The readable description of a curve and its clamps: read into a job with the line of each thing, and written from one."""
+"""The readable description of a curve, its cutter and its clamps: read into a job with the line of each thing, and written from one."""
 
 import re
 
@@ -10,14 +10,18 @@ LONGEST_SHOWN = 24
 SAVE = "save it as UTF-8, which plain English letters and digits are already"
 COORDINATE = "-%s to %s" % ((format(refusals.FARTHEST, ","),) * 2)
 KNOT = "0 to %s" % format(refusals.KNOT_MOST, ",")
+RADIUS = "0 to %s hundredths of a millimetre" % format(refusals.RADIUS_MOST, ",")
+NO_RADIUS = "no radius: write a line such as `radius 150`, half the cutter's width in hundredths of a millimetre; `radius 0` for a pen"
 
 # For each word: how many numbers, the least and the most that a job can store, and what it takes, in words.
 TAKES = {
     "degree": (1, 0, 255, "one number, 1, 2 or 3"),
     "knots": (None, 0, 65535, "whole numbers, each %s" % KNOT),
     "point": (2, -(2**31), 2**31 - 1, "two numbers, x and y, each %s" % COORDINATE),
+    "radius": (1, 0, 65535, "one number, %s" % RADIUS),
     "clamp": (4, -(2**31), 2**31 - 1, "four numbers, low x, high x, low y, high y, each %s" % COORDINATE),
 }
+ONCE = ("degree", "radius")
 
 
 class BadText(Exception):
@@ -61,7 +65,8 @@ def hint(word, part):
     sign, whole, hundredths = decimal.groups() if decimal else ("", "0", "5")
     number = int(sign + (whole or "0") + hundredths.ljust(2, "0"))
     example = part if decimal else "0.5"
-    return "; coordinates are whole hundredths of a millimetre: %s mm is %d" % (example, number)
+    what = "the radius is in" if word == "radius" else "coordinates are"
+    return "; %s whole hundredths of a millimetre: %s mm is %d" % (what, example, number)
 
 
 def number_of(place, word, part):
@@ -97,15 +102,17 @@ class Reading:
         self.found[word] += entries
         self.lines[word] += [place] * len(entries)
         name = {"point": "points", "clamp": "clamps"}.get(word, word)
-        if word == "degree" and len(self.found[word]) > 1:
-            raise BadText("line %d: the degree is given a second time" % place)
-        if word != "degree" and len(self.found[word]) > MOST[name]:
+        if word in ONCE and len(self.found[word]) > 1:
+            raise BadText("line %d: the %s is given a second time" % (place, word))
+        if word not in ONCE and len(self.found[word]) > MOST[name]:
             raise BadText("line %d: %d %s are more than the %d that a job can hold" % (place, len(self.found[word]), name, MOST[name]))
 
     def job(self):
         if not self.found["degree"]:
             raise BadText("there is no line with the degree")
-        return Job(self.found["degree"][0], self.found["knots"], self.found["point"], self.found["clamp"])
+        if not self.found["radius"]:
+            raise BadText(NO_RADIUS)
+        return Job(self.found["degree"][0], self.found["knots"], self.found["point"], self.found["radius"][0], self.found["clamp"])
 
 
 def read_lines(text):
@@ -116,7 +123,7 @@ def read_lines(text):
         if not word:
             continue
         if word not in TAKES:
-            raise BadText("line %d: %s is none of degree, knots, point, clamp" % (place, shown(word)))
+            raise BadText("line %d: %s is none of %s" % (place, shown(word), ", ".join(TAKES)))
         numbers = numbers_of(place, word, rest)
         reading.take(place, word, [tuple(numbers)] if word in ("point", "clamp") else numbers)
     return reading.job(), reading.lines
@@ -137,10 +144,11 @@ def refused(job, lines):
 
 
 def write_text(job):
-    """The description of a job."""
+    """The description of a job; where the job has no radius, a remark tells what to write."""
     lines = ["degree %d" % job.degree, ""]
     lines += ["knots " + " ".join(map(str, job.knots[at : at + 16])) for at in range(0, len(job.knots), 16)] + [""]
-    lines += ["point %d %d" % point for point in job.points]
+    lines += ["point %d %d" % point for point in job.points] + [""]
+    lines.append("# " + NO_RADIUS if job.radius is None else "radius %d" % job.radius)
     if job.clamps:
         lines += ["", "# low x, high x, low y, high y"]
     lines += ["clamp %d %d %d %d" % clamp for clamp in job.clamps]

@@ -2,7 +2,7 @@
 
 import refusals
 import text_kind
-from job_bytes import RECORD, BadJob, fields, width
+from job_bytes import CLAMP, RADIUS, RECORD, BadJob, fields, lacks_radius, width
 
 ON_A_LINE = 8
 SIDES = ("low x", "high x", "low y", "high y")
@@ -13,7 +13,7 @@ def counted(count, thing):
 
 
 def is_clamp(taken):
-    return taken.kind.tag > len(RECORD)
+    return taken.kind.tag == CLAMP.tag
 
 
 def head_line(taken):
@@ -21,7 +21,7 @@ def head_line(taken):
     head = "byte %d: tag %d" % (taken.at, taken.kind.tag)
     if taken.length is None:
         return "%s: %s" % (head, taken.kind.name)
-    count, single = taken.length // width(taken.kind), is_clamp(taken) or taken.kind is RECORD[0]
+    count, single = taken.length // width(taken.kind), is_clamp(taken) or taken.kind in (RECORD[0], RADIUS)
     return "%s, length %d: %s%s" % (head, taken.length, taken.kind.name, "" if single else ", %d of them" % count)
 
 
@@ -43,9 +43,9 @@ def field_lines(taken):
 
 def end_line(data, whole):
     """What a job without a fault in its bytes holds."""
-    degree, knots, xs, ys = [taken.numbers for taken in whole[: len(RECORD)]]
+    degree, knots, xs, ys, radius, *clamps = [taken.numbers for taken in whole]
     points = counted(len(xs), "point") if len(xs) == len(ys) else "%d x, %d y" % (len(xs), len(ys))
-    parts = ("degree %d" % degree[0], counted(len(knots), "knot"), points, counted(len(whole) - len(RECORD), "clamp"))
+    parts = ("degree %d" % degree[0], counted(len(knots), "knot"), points, "radius %d" % radius[0], counted(len(clamps), "clamp"))
     return "byte %d: here the job ends: %s" % (len(data), ", ".join(parts))
 
 
@@ -61,8 +61,8 @@ def walk_lines(data):
     return lines + [end_line(data, whole)]
 
 
-def verdict_lines(data):
-    """What clampcheck says of the bytes: the refusal in words, or that they are taken."""
+def verdict_lines(data, name):
+    """What clampcheck says of the bytes in the file of this name: the refusal in words, or that they are taken."""
     found = refusals.judged(data)
     if found is None:
         return ["clampcheck takes this job"]
@@ -72,9 +72,11 @@ def verdict_lines(data):
         lines.append(words)
     elif text_kind.is_text(data):
         lines.append("this is %s; python3 tools/job.py make turns a description into a job" % text_kind.kind(data))
+    elif lacks_radius(data):
+        lines.append(refusals.mending(name))
     return lines
 
 
-def explained(data):
+def explained(data, name="JOB"):
     """The lines that explain a job's bytes, sound or not."""
-    return walk_lines(data) + verdict_lines(data)
+    return walk_lines(data) + verdict_lines(data, name)

@@ -1,5 +1,5 @@
 #!/usr/bin/env python3
-"""Turns a readable description of a curve and its clamps into a job for clampcheck, a job back into a description, and says where a job is broken.
+"""Turns a readable description of a curve, its cutter and its clamps into a job for clampcheck, a job back into a description, and says where a job is broken.
 
     python3 tools/job.py make sample.txt sample.job               text to job
     python3 tools/job.py make --anyway sample.txt sample.job      the same for a curve that clampcheck refuses
@@ -15,6 +15,7 @@ A description has one thing on a line; what stands behind a # is a remark:
     point 0 8
     point 8 8
     point 8 0
+    radius 150                 the cutter's, half its width, in hundredths of a millimetre, 0 to 4,096: a 3 mm bit is 150, a pen 0
     clamp 2 3 5 9              low x, high x, low y, high y
 
 What clampcheck would refuse is said here, with its line, and then no job is written unless --anyway asks for it.
@@ -28,7 +29,7 @@ import explain as explaining
 import program
 import text_kind
 from description import BadText, read_text, write_text  # noqa: F401
-from job_bytes import BadJob, Job, read_job, write_job  # noqa: F401
+from job_bytes import BadJob, Job, lacks_radius, read_job, read_without_radius, write_job  # noqa: F401
 
 MOST_READ = 4 * 1024 * 1024
 
@@ -66,11 +67,11 @@ def make(source, target, anyway):
 
 
 def show(source, target=None):
-    """Job to description."""
+    """Job to description; of a job without a radius, one that says so."""
     data = read_file(source)
     if text_kind.is_text(data):
         raise Refused("this is %s, not a job; `make` turns a description into a job" % text_kind.kind(data))
-    text = write_text(read_job(data))
+    text = write_text(read_without_radius(data) if lacks_radius(data) else read_job(data))
     if target is None:
         sys.stdout.write(text)
         sys.stdout.flush()
@@ -80,7 +81,7 @@ def show(source, target=None):
 
 def explain(source):
     """The fields of a job with their places, up to the first fault; of a file that is too long to be a job, no more than it takes to see that."""
-    sys.stdout.write("".join(line + "\n" for line in explaining.explained(program.read_input(source))))
+    sys.stdout.write("".join(line + "\n" for line in explaining.explained(program.read_input(source), source)))
     sys.stdout.flush()
 
 

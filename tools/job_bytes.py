@@ -4,7 +4,7 @@ import struct
 from collections import namedtuple
 
 MOST = {"knots": 1028, "points": 1024, "clamps": 64}
-MOST_BYTES = 11477
+MOST_BYTES = 11482
 ENDED, TAG, LENGTH, LEFT_OVER = 16, 19, 20, 21
 PLACED = (ENDED, TAG, LENGTH, LEFT_OVER)
 
@@ -16,6 +16,7 @@ RECORD = (
     Kind("the x coordinates", "begin", 3, "i", 0, 4 * MOST["points"]),
     Kind("the y coordinates", "begin", 4, "i", 0, 4 * MOST["points"]),
 )
+RADIUS = Kind("the cutter's radius", "begins", 6, "H", 2, 2)
 CLAMP = Kind("clamp %d", "begins", 5, "i", 16, 16)
 
 # A field where it stands: its kind and place, its length (None where that is missing or wrong) and the entries that are whole.
@@ -39,10 +40,13 @@ class Unpaired(BadJob):
 
 
 class Job:
-    """A degree, knots, points (x, y) and clamps (low x, high x, low y, high y), none of them checked."""
+    """A degree, knots, points (x, y), the cutter's radius and clamps (low x, high x, low y, high y), none of them checked.
 
-    def __init__(self, degree, knots, points, clamps):
-        self.degree, self.knots, self.points, self.clamps = degree, knots, points, clamps
+    The radius is None in a job from before jobs had one: such a job can be read and told, not written.
+    """
+
+    def __init__(self, degree, knots, points, radius, clamps):
+        self.degree, self.knots, self.points, self.radius, self.clamps = degree, knots, points, radius, clamps
 
     def __eq__(self, other):
         return vars(self) == vars(other)
@@ -58,7 +62,7 @@ def write_job(job):
     """The bytes of a job."""
     parts = [field(1, "B", [job.degree]), field(2, "H", job.knots)]
     parts += [field(3 + axis, "i", [point[axis] for point in job.points]) for axis in (0, 1)]
-    parts += [field(5, "i", clamp) for clamp in job.clamps]
+    parts += [field(6, "H", [job.radius])] + [field(5, "i", clamp) for clamp in job.clamps]
     return b"".join(parts)
 
 
@@ -119,10 +123,10 @@ def behind(taken):
     return taken.at + 3 + taken.length
 
 
-def fields(data):
-    """The fields of a job one after the other, and BadJob where the first fault stands."""
+def fields(data, front=(*RECORD, RADIUS)):
+    """The fields of a job one after the other, those in front of the clamps given by kind, and BadJob where the first fault stands."""
     at = 0
-    for kind in RECORD:
+    for kind in front:
         taken = take_field(data, at, kind)
         yield taken
         at = behind(taken)
@@ -136,9 +140,29 @@ def fields(data):
         at = behind(taken)
 
 
-def read_job(data):
-    """The job in some bytes, or BadJob. Coordinates that do not pair up are a fault here too."""
-    degree, knots, xs, ys, *clamps = [taken.numbers for taken in fields(data)]
+def job_in(degree, knots, xs, ys, radius, clamps):
+    """The job with these numbers. Coordinates that do not pair up are a fault here too."""
     if len(xs) != len(ys):
         raise Unpaired(degree[0], len(xs), len(ys))
-    return Job(degree[0], knots, list(zip(xs, ys)), [tuple(clamp) for clamp in clamps])
+    return Job(degree[0], knots, list(zip(xs, ys)), radius, [tuple(clamp) for clamp in clamps])
+
+
+def read_job(data):
+    """The job in some bytes, or BadJob."""
+    degree, knots, xs, ys, radius, *clamps = [taken.numbers for taken in fields(data)]
+    return job_in(degree, knots, xs, ys, radius[0], clamps)
+
+
+def lacks_radius(data):
+    """Whether these bytes are a job but for the radius, as jobs were before they had one."""
+    try:
+        list(fields(data, RECORD))
+    except BadJob:
+        return False
+    return True
+
+
+def read_without_radius(data):
+    """The job in bytes that lack the radius."""
+    degree, knots, xs, ys, *clamps = [taken.numbers for taken in fields(data, RECORD)]
+    return job_in(degree, knots, xs, ys, None, clamps)

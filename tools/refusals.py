@@ -1,4 +1,4 @@
-"""The refusals that a job can meet, in words, and which of them a job's bytes, its curve or its clamps meet first, and where.
+"""The refusals that a job can meet, in words, and which of them a job's bytes, its curve, its cutter or its clamps meet first, and where.
 
 Clampcheck judges; this says the same of a description before there is a job, and says of a refused job what is wrong in it.
 """
@@ -11,6 +11,7 @@ import text_kind
 
 KNOT_MOST = 16383
 FARTHEST = 262144
+RADIUS_MOST = 4096
 WORDS = {
     1: "the degree is not 1, 2 or 3",
     2: "there are too few points for the degree, or not as many x as y",
@@ -24,6 +25,7 @@ WORDS = {
     19: "a part of the job begins with another tag than belongs there",
     20: "a part of the job has a length that it cannot have",
     21: "something stands behind the 64th clamp, the last that a job can have",
+    22: "the cutter's radius is above 4,096 hundredths of a millimetre, about 41 mm",
 }
 
 # The number of a refusal, what is wrong, and the word and place (from 0) of the line that it concerns, or None.
@@ -87,6 +89,13 @@ def range_fault(job):
     return None
 
 
+def radius_fault(job):
+    """Row 22."""
+    if job.radius > RADIUS_MOST:
+        return Fault(22, "radius %d; the cutter's radius is 0 to %s" % (job.radius, format(RADIUS_MOST, ",")), ("radius", 0))
+    return None
+
+
 def clamps_fault(job):
     """Row 14."""
     for k, clamp in enumerate(job.clamps):
@@ -102,7 +111,7 @@ def clamps_fault(job):
 
 def fault_of(job):
     """The first fault in the order of judging, or None where clampcheck takes the job."""
-    for judge in (counts_fault, falling_fault, ends_fault, repeats_fault, range_fault, clamps_fault):
+    for judge in (counts_fault, falling_fault, ends_fault, repeats_fault, range_fault, radius_fault, clamps_fault):
         fault = judge(job)
         if fault:
             return fault
@@ -123,13 +132,22 @@ def line(number, place):
     return "refused %d" % number if place is None else "refused %d at %d" % (number, place)
 
 
+def mending(name):
+    """What to do with a job that has no radius, in the file of this name."""
+    lacks = "this job has no radius, like all that were made before jobs had one"
+    todo = "add a line such as `radius 150` to its description and make it again"
+    return "%s: %s; python3 tools/job.py show %s prints the description" % (lacks, todo, shlex.quote(name))
+
+
 def particulars(number, place, data, name):
     """What is wrong in these bytes, as far as it can be said, for the refusal that clampcheck gave on the file of this name."""
     if place is not None and text_kind.is_text(data):
         return ["this is %s; python3 tools/job.py make turns a description into a job" % text_kind.kind(data)]
     found = judged(data)
     words = [found[2]] if found and found[:2] == (number, place) else []
-    if place is not None and data:
+    if words and job_bytes.lacks_radius(data):
+        words.append(mending(name))
+    elif place is not None and data:
         words.append("python3 tools/job.py explain %s shows what stands at which byte" % shlex.quote(name))
     return words
 

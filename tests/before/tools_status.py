@@ -10,18 +10,27 @@ from pretended import TOP, in_folder, run_parts  # noqa: E402
 import answer  # noqa: E402
 import exit_status  # noqa: E402
 from job_bytes import Job, read_job, write_job  # noqa: E402
+from refusals import mending  # noqa: E402
 
 SIGN = (TOP / "examples" / "sign.job").read_bytes()
-CLEAR = write_job(Job(3, [0, 0, 0, 0, 4, 4, 4, 4], [(0, 0), (0, 8), (8, 8), (8, 0)], [(9, 12, 0, 4), (0, 8, 9, 10)]))
-TURNED = write_job(Job(3, [0, 0, 0, 0, 4, 4, 4, 4], [(0, 0), (0, 8), (8, 8), (8, 0)], [(9, 12, 0, 4), (8, 0, 9, 10)]))
+CLEAR = write_job(Job(3, [0, 0, 0, 0, 4, 4, 4, 4], [(0, 0), (0, 8), (8, 8), (8, 0)], 0, [(9, 12, 0, 4), (0, 8, 9, 10)]))
+TURNED = write_job(Job(3, [0, 0, 0, 0, 4, 4, 4, 4], [(0, 0), (0, 8), (8, 8), (8, 0)], 0, [(9, 12, 0, 4), (8, 0, 9, 10)]))
+TOO_WIDE = write_job(Job(3, [0, 0, 0, 0, 4, 4, 4, 4], [(0, 0), (0, 8), (8, 8), (8, 0)], 4097, [(9, 12, 0, 4), (0, 8, 9, 10)]))
+OLD = CLEAR[:61] + CLEAR[66:]
 CLEAR_TEXT = b"curve degree 3 points 4 spans 1\nclamp 1 clear\nclamp 2 clear\n"
 MET_TEXT = b"curve degree 3 points 4 spans 1\nclamp 1 may meet 0..4\nclamp 2 clear\n"
-BARE = write_job(Job(1, [0, 0, 1, 1], [(0, 0), (5, 5)], []))
+BARE = write_job(Job(1, [0, 0, 1, 1], [(0, 0), (5, 5)], 0, []))
 BARE_TEXT = b"curve degree 1 points 2 spans 1\n"
 BROKEN_WORDS = """refused 19 at 4: a part of the job begins with another tag than belongs there
 byte 4: here the knots begin with tag 2, found 7
 python3 tools/job.py explain 'my broken.job' shows what stands at which byte
 """
+
+
+OLD_WORDS = """refused 19 at 61: a part of the job begins with another tag than belongs there
+byte 61: here the cutter's radius begins with tag 6, found 5
+%s
+""" % mending("my old.job")
 
 
 def prints(text):
@@ -35,13 +44,15 @@ PRETENDED = [
     (prints(BARE_TEXT), BARE, 0),
     (prints(MET_TEXT), CLEAR, 1),
     ("printf 'refused 14\\n'", CLEAR, 2),
+    ("printf 'refused 22\\n'", CLEAR, 2),
+    ("printf 'refused 22 at 61\\n'", CLEAR, 3),
     ("printf 'refused 8\\n'", CLEAR, 3),
     ("printf 'refused 19 at 4\\n'", CLEAR, 2),
-    ("printf 'refused 16 at 99\\n'", CLEAR, 2),
+    ("printf 'refused 16 at 104\\n'", CLEAR, 2),
     ("printf 'refused 16\\n'", CLEAR, 3),
     ("printf 'refused 14 at 4\\n'", CLEAR, 3),
-    ("printf 'refused 19 at 99\\n'", CLEAR, 3),
-    ("printf 'refused 16 at 98\\n'", CLEAR, 3),
+    ("printf 'refused 19 at 104\\n'", CLEAR, 3),
+    ("printf 'refused 16 at 103\\n'", CLEAR, 3),
     ("printf 'refused 14\\nrefused 14\\n'", CLEAR, 3),
     ("true", CLEAR, 3),
     ("printf 'curve degree 3 points 4 sp'", CLEAR, 3),
@@ -52,6 +63,8 @@ PRETENDED = [
     ("printf 'curve \\377\\n'", CLEAR, 3),
     (prints(CLEAR_TEXT), CLEAR[:-1], 3),
     (prints(CLEAR_TEXT), TURNED, 3),
+    (prints(CLEAR_TEXT), TOO_WIDE, 3),
+    (prints(CLEAR_TEXT), OLD, 3),
 ]
 
 
@@ -101,15 +114,15 @@ def refusals():
     for number in range(31):
         for place in (None, 0, 4, len(CLEAR) - 1, len(CLEAR), len(CLEAR) + 1):
             text = b"refused %d" % number + (b"" if place is None else b" at %d" % place) + b"\n"
-            if number in (1, 2, 3, 4, 5, 6, 7, 14):
+            if number in (1, 2, 3, 4, 5, 6, 7, 14, 22):
                 right = place is None
             else:
                 right = place is not None and (place == len(CLEAR) if number == 16 else number in (19, 20, 21) and place < len(CLEAR))
             assert (word(text, CLEAR) == answer.REFUSED) == right, "%r is %s" % (text, word(text, CLEAR))
             assert not right or (answer.read_answer(text, CLEAR).refusal, answer.read_answer(text, CLEAR).place) == (number, place)
-    plain = {b"refused %d\n" % number for number in (1, 2, 3, 4, 5, 6, 7, 14)}
+    plain = {b"refused %d\n" % number for number in (1, 2, 3, 4, 5, 6, 7, 14, 22)}
     placed = {b"refused %d at %d\n" % (number, place) for number in (16, 19, 20, 21) for place in range(len(CLEAR) + 1)}
-    for other in (*changed(b"refused 19 at 4\n"), *changed(b"refused 16 at 99\n"), b"refused 19 at  4\n", b"refused 19 at -4\n"):
+    for other in (*changed(b"refused 19 at 4\n"), *changed(b"refused 16 at 104\n"), b"refused 19 at  4\n", b"refused 19 at -4\n"):
         assert other in plain | placed or word(other, CLEAR) is None, "%r counts as a refusal" % other
 
 
@@ -123,12 +136,15 @@ def programs(folder):
         assert bool(ended.stdout) == (right != 3), "%s: printed %r" % (text, ended.stdout)
         assert bool(ended.stderr) == (right > 1), "%s: said %r" % (text, ended.stderr)
         assert b"Traceback" not in ended.stderr, ended.stderr.decode()
-    broken = folder.top / "my broken.job"
-    broken.write_bytes(CLEAR[:4] + b"\7" + CLEAR[5:])
-    folder.pretend_program("cat >/dev/null; printf 'refused 19 at 4\\n'")
-    ended = folder.run("tools/clampcheck", broken.name)
-    assert (ended.returncode, ended.stdout) == (2, b"refused 19 at 4\n"), ended
-    assert ended.stderr.decode() == BROKEN_WORDS, ended.stderr.decode()
+    for name, job, said, words in (
+        ("my broken.job", CLEAR[:4] + b"\7" + CLEAR[5:], b"refused 19 at 4\n", BROKEN_WORDS),
+        ("my old.job", OLD, b"refused 19 at 61\n", OLD_WORDS),
+    ):
+        (folder.top / name).write_bytes(job)
+        folder.pretend_program("cat >/dev/null; " + prints(said))
+        ended = folder.run("tools/clampcheck", name)
+        assert (ended.returncode, ended.stdout) == (2, said), ended
+        assert ended.stderr.decode() == words, ended.stderr.decode()
 
 
 @in_folder
