@@ -4,9 +4,10 @@
     python3 tools/draw.py JOB PICTURE.svg            runs the built clampcheck on the job
     python3 tools/draw.py JOB PICTURE.svg OUTPUT     takes what clampcheck printed from the file OUTPUT
 
-Clear clamps are plain green. Of the others, those that the drawn curve runs into are crossed red, and those that only a box
-round control points touches are striped amber. Knots stand on the curve with their values; clamps that lie far off are
-pointed at from the border. A refused job gives a picture that says why. The same job gives the same bytes.
+The cut is a band as wide as the cutter, and each clamp has a second outline, widened by the cutter's radius. Clear clamps are
+plain green. Of the others, those that the drawn cut runs into are crossed red, and those that are listed for a box round control
+points alone are striped amber. Knots stand on the curve with their values; clamps that lie far off are pointed at from the
+border. A refused job gives a picture that says why. The same job gives the same bytes.
 """
 
 import os
@@ -31,7 +32,7 @@ def draw_answer(job, listed):
     found = words.findings(job, listed, pieces)
     counts = ((len(job.points), "point"), (len(pieces), "span"), (len(found), "clamp"))
     head = ", ".join(["degree %d" % job.degree] + [words.count(*count) for count in counts])
-    sheet.text(legend.LEFT, 28, head, legend.SIZE, fill="black")
+    sheet.text(legend.LEFT, 28, "%s, %s" % (head, words.cutter(job.radius)), legend.SIZE, fill="black")
     drawn = picture.Picture(sheet, view, job, pieces, found)
     drawn.draw()
     naming.Names(drawn).draw()

@@ -4,7 +4,7 @@ CELL = 8
 GAPS = (3, 12, 24, 40, 60, 85, 115, 150, 190, 240, 300, 370)
 SIDES = (-1, -0.5, 0, 0.5, 1)
 AROUND = [(dx, dy) for dy in SIDES for dx in SIDES if 1 in (abs(dx), abs(dy))]
-BUSY_COST, BIG_COST = 14, 30
+BUSY_COST, SIDE_COST, BIG_COST = 14, 5, 45
 
 
 def overlap(one, other):
@@ -21,15 +21,26 @@ class Labels:
 
     def __init__(self, bounds):
         self.bounds = bounds
-        self.kept, self.big, self.busy = [], [], set()
+        self.kept, self.big, self.busy = [], [], {}
 
     def keep(self, box):
         """No label may cover this."""
         self.kept.append(box)
 
-    def mark(self, x, y):
+    def mark(self, x, y, cost=BUSY_COST):
         """Labels had better not cover this place."""
-        self.busy.add((int(x // CELL), int(y // CELL)))
+        cell = int(x // CELL), int(y // CELL)
+        self.busy[cell] = max(cost, self.busy.get(cell, 0))
+
+    def mark_sides(self, box):
+        """The same, less so, for the sides of a box, as far as they lie where labels may."""
+        left, top, right, bottom = self.bounds
+        for x in (box[0], box[2]):
+            for y in range(int(max(box[1], top)), int(min(box[3], bottom)), CELL):
+                self.mark(x, y, SIDE_COST)
+        for y in (box[1], box[3]):
+            for x in range(int(max(box[0], left)), int(min(box[2], right)), CELL):
+                self.mark(x, y, SIDE_COST)
 
     def cost(self, box):
         """How bad it is to put a label here; None where it is forbidden."""
@@ -40,8 +51,8 @@ class Labels:
             return None
         columns = range(int(box[0] // CELL), int(box[2] // CELL) + 1)
         rows = range(int(box[1] // CELL), int(box[3] // CELL) + 1)
-        busy = sum((column, row) in self.busy for column in columns for row in rows)
-        return BUSY_COST * busy + BIG_COST * sum(overlap(box, big) for big in self.big)
+        busy = sum(self.busy.get((column, row), 0) for column in columns for row in rows)
+        return busy + BIG_COST * sum(overlap(box, big) for big in self.big)
 
     def find(self, home, wide, high, reach):
         """The best place for a label round a box, within a reach, or None; the label is then kept."""

@@ -3,7 +3,7 @@
 import textwrap
 
 from drawing import words
-from drawing.picture import COLOUR, FILL, GREY, INK, clamp_style, piece_style
+from drawing.picture import COLOUR, CUT, FILL, GREY, INK, clamp_style, outline_style, piece_style
 from drawing.view import length
 from drawing.words import BOXED, CLEAR, ENTERED
 
@@ -45,14 +45,32 @@ class Legend:
         kinds = {picture.kind(span) for span in picture.pieces}
         stroke = lambda style: lambda x, y: self.sheet.line([(x, y), (x + 46, y)], **style)
         self.sign(self.knotted, "the curve; a stroke across it is a knot, with its value where there is room")
+        self.width(picture)
         if ENTERED in kinds:
-            self.sign(stroke(piece_style(ENTERED)), "a piece between two knots that runs into a clamp, or touches one")
+            self.sign(stroke(piece_style(ENTERED)), "a piece between two knots whose cut runs into a clamp, or touches one")
         if BOXED in kinds:
-            self.sign(stroke(piece_style(BOXED)), "a piece that clampcheck lists, but only its box touches a clamp")
+            self.sign(stroke(piece_style(BOXED)), "a piece that clampcheck lists for its box alone")
         if picture.shows_dots():
             self.sign(self.dotted, "the control points")
         if any(picture.shows_boxes(kind) for kind in kinds):
             self.sign(self.boxed, "the box round the control points of one piece")
+
+    def width(self, picture):
+        """The cut and the widened clamps, which a pen has not."""
+        radius = picture.job.radius
+        if radius:
+            self.sign(self.cut, "the cut: the wood that a cutter %s wide takes away along the curve" % length(2 * radius))
+        if picture.outlined:
+            what = "round a clamp: the clamp widened by the cutter's radius, %s, on all four sides" % length(radius)
+            self.sign(self.outlined, what + "; clampcheck lists a piece where its box touches this outline")
+
+    def cut(self, x, y):
+        self.sheet.line([(x + 8, y), (x + 38, y)], stroke_width=16, **CUT)
+        self.sheet.line([(x + 8, y), (x + 38, y)], stroke=INK, stroke_width=2.5)
+
+    def outlined(self, x, y):
+        self.sheet.box(x, y - 8, x + 46, y + 9, **outline_style(CLEAR))
+        self.sheet.box(x + 7, y - 2, x + 39, y + 3, fill=FILL[CLEAR], **clamp_style(CLEAR))
 
     def knotted(self, x, y):
         self.sheet.line([(x, y), (x + 46, y)], stroke=INK, stroke_width=2.5)

@@ -43,6 +43,8 @@ class Names:
             box = self.picture.place(k)
             big = min(box[2] - box[0], box[3] - box[1]) > BIG_CLAMP
             (self.labels.big if big else self.labels.kept).append(box)
+        for k in self.picture.outlined:
+            self.labels.mark_sides(self.picture.widened(k))
 
     def label(self, box, words, size, **style):
         self.picture.sheet.box(*box, fill="white", fill_opacity=0.85, rx=3)

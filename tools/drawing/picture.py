@@ -1,4 +1,4 @@
-"""The drawn part of a picture, layer by layer: boxes, control points, clamps and the curve."""
+"""The drawn part of a picture, layer by layer: boxes, control points, clamps, the cut and the curve."""
 
 import shape
 from drawing.words import BOXED, CLEAR, ENTERED
@@ -12,6 +12,7 @@ OUTLINE = {
     BOXED: dict(stroke_width=2.5, stroke_dasharray="7 3"),
 }
 MOST_BOXES, MOST_DOTS = 60, 150
+CUT = dict(stroke="#7d8fa6", stroke_opacity=0.45, stroke_linejoin="round", stroke_linecap="round")
 SMALL_CLAMP = 12
 
 
@@ -29,12 +30,17 @@ def clamp_style(kind):
     return dict(stroke=COLOUR[kind], **OUTLINE[kind])
 
 
+def outline_style(kind):
+    """How a clamp's widened outline is drawn."""
+    return dict(fill="none", stroke=COLOUR[kind], stroke_width=1.5, stroke_dasharray="11 3 2 3")
+
+
 def piece_style(kind):
     """How a piece of the curve is drawn."""
     if kind == ENTERED:
-        return dict(stroke=COLOUR[kind], stroke_width=6)
+        return dict(stroke=COLOUR[kind], stroke_width=4)
     if kind == BOXED:
-        return dict(stroke=COLOUR[kind], stroke_width=6, stroke_dasharray="12 5")
+        return dict(stroke=COLOUR[kind], stroke_width=4, stroke_dasharray="12 5")
     return dict(stroke=INK, stroke_width=2.5)
 
 
@@ -46,6 +52,7 @@ class Picture:
         self.entered = {span for finding in found for span in finding.entered}
         self.listed = {span for finding in found for span in finding.entered + finding.boxed}
         self.near = [k for k in range(len(job.clamps)) if k not in view.far]
+        self.outlined = self.near if job.radius else []
         steps = max(4, 2000 // len(pieces))
         self.samples = [shape.bezier_at(self.rough(span), k / steps) for span in pieces for k in range(steps + 1)]
 
@@ -57,6 +64,10 @@ class Picture:
         """Where a near clamp is drawn: left, top, right, bottom."""
         return self.view.clamp_box(self.job.clamps[k])
 
+    def widened(self, k):
+        """Where a near clamp, widened by the radius, has its sides; they may lie beyond the frame."""
+        return self.view.box(shape.widened(self.job.clamps[k], self.job.radius))
+
     def kind(self, span):
         """What the piece of a span does: enter a clamp, be listed for its box alone, or neither."""
         return ENTERED if span in self.entered else BOXED if span in self.listed else CLEAR
@@ -67,11 +78,14 @@ class Picture:
         self.boxes()
         self.polygon()
         self.clamps()
+        self.outlines()
+        self.cut()
         self.curve()
 
     def frame(self):
-        view = self.view
-        self.sheet.box(view.left, view.top, view.right, view.bottom, fill="none", stroke="#dde2e7", stroke_width=1)
+        sides = self.view.left, self.view.top, self.view.right, self.view.bottom
+        self.sheet.window("frame", *sides)
+        self.sheet.box(*sides, fill="none", stroke="#dde2e7", stroke_width=1)
 
     def shows_boxes(self, kind):
         """Boxes are left out where they would be too many to tell apart."""
@@ -101,15 +115,26 @@ class Picture:
             kind = self.found[k].kind
             self.sheet.box(*self.place(k), fill=FILL[kind], **clamp_style(kind))
 
+    def outlines(self):
+        """The clamps as the box test takes them, as far as they lie in the frame."""
+        for k in self.outlined:
+            self.sheet.box(*self.widened(k), clip_path="url(#frame)", **outline_style(self.found[k].kind))
+
+    def cut(self):
+        """The wood that goes: the curve, as wide as the cutter. One line, so that pieces which overlap are no darker."""
+        if self.job.radius:
+            pieces = [[self.view.at(point) for point in points] for points in self.pieces.values()]
+            self.sheet.bezier(pieces, stroke_width=2 * self.job.radius * self.view.scale, **CUT)
+
     def curve(self):
         for kind in (CLEAR, BOXED, ENTERED):
             for span, points in self.pieces.items():
                 if self.kind(span) == kind:
-                    self.sheet.bezier([self.view.at(point) for point in points], **piece_style(kind))
+                    self.sheet.bezier([[self.view.at(point) for point in points]], **piece_style(kind))
         for k in self.near:
-            self.outline(self.place(k), self.found[k].kind)
+            self.rim(self.place(k), self.found[k].kind)
 
-    def outline(self, box, kind):
+    def rim(self, box, kind):
         """A clamp's sides over the curve; a small clamp, which the curve might hide, whole and with a white rim."""
         if min(box[2] - box[0], box[3] - box[1]) > SMALL_CLAMP:
             self.sheet.box(*box, fill="none", **clamp_style(kind))

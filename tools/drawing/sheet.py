@@ -30,10 +30,12 @@ class Sheet:
     def line(self, points, **style):
         self.put("polyline", points=" ".join("%s,%s" % tuple(map(number, point)) for point in points), fill="none", **style)
 
-    def bezier(self, points, **style):
-        """A straight, quadratic or cubic piece."""
-        first, *rest = ["%s,%s" % tuple(map(number, point)) for point in points]
-        self.put("path", d="M%s %s%s" % (first, "LQC"[len(rest) - 1], " ".join(rest)), fill="none", **style)
+    def bezier(self, pieces, **style):
+        """Straight, quadratic or cubic pieces, each of which begins where the one before it ends, as one line."""
+        words = ["M%s,%s" % tuple(map(number, pieces[0][0]))]
+        for _, *rest in pieces:
+            words.append("LQC"[len(rest) - 1] + " ".join("%s,%s" % tuple(map(number, point)) for point in rest))
+        self.put("path", d=" ".join(words), fill="none", **style)
 
     def box(self, left, top, right, bottom, **style):
         self.put("rect", x=float(left), y=float(top), width=float(right - left), height=float(bottom - top), **style)
@@ -43,6 +45,11 @@ class Sheet:
 
     def text(self, x, y, words, size, **style):
         self.put("text", words, x=float(x), y=float(y), font_family=FONT, font_size=size, **style)
+
+    def window(self, name, left, top, right, bottom):
+        """A box outside of which nothing is seen of what names it."""
+        inside = '<rect x="%s" y="%s" width="%s" height="%s"/>' % tuple(map(number, (left, top, right - left, bottom - top)))
+        self.parts.append('<defs><clipPath id="%s">%s</clipPath></defs>' % (name, inside))
 
     def pattern(self, name, wide, high, marks, turn=0):
         """Something to fill boxes with: marks are finished elements."""

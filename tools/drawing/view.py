@@ -1,4 +1,4 @@
-"""Which part of the grid a picture shows: the whole curve, and the clamps near it. A far clamp does not make it smaller."""
+"""Which part of the grid a picture shows: the whole cut, and the clamps near it, widened. A far clamp does not make it smaller."""
 
 import shape
 from drawing.sheet import WIDE
@@ -26,10 +26,10 @@ class View:
     """The shown region of the grid, and where it lies on the sheet."""
 
     def __init__(self, job):
-        curve = shape.box(job.points)
+        curve = shape.widened(shape.box(job.points), job.radius)
         reach = max(REACH * max(curve[1] - curve[0], curve[3] - curve[2]), LEAST_REACH)
         region = curve[0] - reach, curve[1] + reach, curve[2] - reach, curve[3] + reach
-        near = [clamp for clamp in job.clamps if shape.meet(clamp, region)]
+        near = [shape.widened(clamp, job.radius) for clamp in job.clamps if shape.meet(clamp, region)]
         self.far = [k for k, clamp in enumerate(job.clamps) if not shape.meet(clamp, region)]
         self.cut = [k for k, clamp in enumerate(job.clamps) if shape.meet(clamp, region) and clipped(clamp, region) != clamp]
         low_x, high_x, low_y, high_y = round_all([curve] + [clipped(clamp, region) for clamp in near])

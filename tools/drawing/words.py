@@ -1,27 +1,34 @@
-"""What a picture says in words of each clamp: clear, entered by the drawn curve, or touched by a box alone."""
+"""What a picture says in words of each clamp: clear, entered by the drawn cut, or listed for a box alone."""
 
 from collections import namedtuple
 
 import shape
 from answer import NotUnderstood
+from drawing.view import length
 
 CLEAR, ENTERED, BOXED = "clear", "entered", "boxed"
 MOST_NAMED = 6
 
-# The kind of a clamp, the spans whose piece enters it, and the spans whose box alone touches it.
-Finding = namedtuple("Finding", "kind entered boxed")
+# The kind of a clamp, the spans whose cut enters it, the spans that are listed for their box alone, and whether the line itself stays out.
+Finding = namedtuple("Finding", "kind entered boxed missed")
 
 
 def findings(job, listed, pieces):
     """For each clamp what the drawing shows, from the spans that clampcheck listed and the Bezier points of the spans."""
     boxes = {span: shape.box(shape.carrying(job, span[0])) for span in pieces}
+
+    def reaching(clamp, radius):
+        outline = shape.widened(clamp, radius)
+        return [span for span in pieces if shape.meet(boxes[span], outline) and shape.reaches(pieces[span], clamp, radius)]
+
     found = []
     for number, (clamp, spans) in enumerate(zip(job.clamps, listed), 1):
-        entered = [span for span in pieces if shape.meet(boxes[span], clamp) and shape.enters(pieces[span], clamp)]
+        entered = reaching(clamp, job.radius)
         if not set(entered) <= set(spans):
-            raise NotUnderstood("the drawn curve enters clamp %d where the text does not list it: %s" % (number, named(entered)))
+            raise NotUnderstood("the drawn cut enters clamp %d where the text does not list it: %s" % (number, named(entered)))
         boxed = sorted(set(spans) - set(entered))
-        found.append(Finding(ENTERED if entered else BOXED if boxed else CLEAR, entered, boxed))
+        kind = ENTERED if entered else BOXED if boxed else CLEAR
+        found.append(Finding(kind, entered, boxed, not reaching(clamp, 0)))
     return found
 
 
@@ -65,6 +72,11 @@ def count(many, thing):
     return "%s %s%s" % (format(many, ","), thing, "" if many == 1 else "s")
 
 
+def cutter(radius):
+    """The cutter by its width."""
+    return "a cutter %s wide (radius %d)" % (length(2 * radius), radius) if radius else "a pen (radius 0)"
+
+
 def numbers_of(found, kind):
     return [number for number, finding in enumerate(found, 1) if finding.kind == kind]
 
@@ -73,10 +85,10 @@ def heading(kind, numbers):
     """The line over the clamps of one kind."""
     which = "clamp" if len(numbers) == 1 else "clamps"
     if kind == CLEAR:
-        return "clear, proved for every point of the curve: %s %s" % (which, listing(numbers))
+        return "clear, proved for the whole cut: %s %s" % (which, listing(numbers))
     if kind == ENTERED:
-        return "the drawn curve runs into, or touches, %s %s" % (which, listing(numbers))
-    return "only a box touches %s %s; the drawn curve stays out (seen here, not proved)" % (which, listing(numbers))
+        return "the drawn cut runs into, or touches, %s %s" % (which, listing(numbers))
+    return "listed for a box alone: %s %s; the drawn cut stays out (seen here, not proved)" % (which, listing(numbers))
 
 
 def lines(found, kind):
@@ -91,12 +103,13 @@ def said(finding):
     """What is said of a clamp that is not clear."""
     if finding.kind == BOXED:
         return "the box of %s" % named(finding.boxed)
+    width = " by the cutter's width, the line itself stays out" if finding.missed else ""
     more = "; the box alone of %s" % named(finding.boxed) if finding.boxed else ""
-    return "the curve in %s%s" % (named(finding.entered), more)
+    return "the cut of %s%s%s" % (named(finding.entered), width, more)
 
 
 def title(found):
     """The picture in a sentence."""
-    kinds = ((CLEAR, "clear"), (ENTERED, "run into or touched by the curve"), (BOXED, "touched by a box alone"))
+    kinds = ((CLEAR, "clear"), (ENTERED, "run into or touched by the cut"), (BOXED, "listed for a box alone"))
     counts = ["%d %s" % (len(numbers_of(found, kind)), word) for kind, word in kinds]
     return "A curve and %s: %s" % (count(len(found), "clamp"), ", ".join(counts))
