@@ -8,6 +8,7 @@ sys.dont_write_bytecode = True
 sys.path[:0] = [str(pathlib.Path(__file__).resolve().parents[1])]
 
 from pretended import TOP, in_folder, run_parts  # noqa: E402
+from refusals import mending  # noqa: E402
 
 CRATES = "# what is listed\nrefusal:\ngrid: refusal\nother: grid\nclampcheck: io grid refusal\n"
 PROVES = "printf 'rt: refusal proved (unchanged since it was last proved)\\nlogic=proved\\nrt: grid proved (9 s)\\nrt: ok\\n'"
@@ -15,7 +16,7 @@ WAITS = "printf 'rt: refusal proved (1 s)\\n'; n=0; while [ ! -e go ]; do n=$((n
 ADVICE = "    python3 tools/job.py make 'my sign.txt' 'my sign.job'\n    tools/try.sh 'my sign.job'\n"
 SAMPLE = (TOP / "examples" / "sign.job").read_bytes()
 SAMPLE_TEXT = b"""curve degree 3 points 12 spans 9
-clamp 1 clear
+clamp 1 may meet 0..10
 clamp 2 may meet 10..20
 clamp 2 may meet 20..30
 clamp 2 may meet 30..40
@@ -24,9 +25,10 @@ clamp 3 may meet 10..20
 clamp 4 clear
 clamp 5 may meet 80..90
 """
-CUT = "byte 235: here the contents of clamp 5 go on, 1 byte more, found the end\n"
+CUT = "byte 240: here the contents of clamp 5 go on, 1 byte more, found the end\n"
 TAGGED = "byte 4: here the knots begin with tag 2, found 7\n"
 MORE = "python3 tools/job.py explain cut.job shows what stands at which byte\n"
+OLD = "byte 141: here the cutter's radius begins with tag 6, found 5\n%s\n" % mending("cut.job")
 
 
 @in_folder
@@ -88,18 +90,19 @@ def at_once(folder):
 def refusal(folder):
     """A refusal is told in words, with what is wrong in the job."""
     for job, said, words in (
-        (SAMPLE[:-1], "refused 16 at 235", "the file ends before the job does: it is cut short, or empty\n" + CUT),
-        (SAMPLE[:4] + b"\7" + SAMPLE[5:], "refused 19 at 4", "a part of the job begins with another tag than belongs there\n" + TAGGED),
+        (SAMPLE[:-1], "refused 16 at 240", "the file ends before the job does: it is cut short, or empty\n" + CUT + MORE),
+        (SAMPLE[:4] + b"\7" + SAMPLE[5:], "refused 19 at 4", "a part of the job begins with another tag than belongs there\n" + TAGGED + MORE),
+        (SAMPLE[:141] + SAMPLE[146:], "refused 19 at 141", "a part of the job begins with another tag than belongs there\n" + OLD),
     ):
         folder.pretend_program("cat >/dev/null; printf '%s\\n'" % said)
         folder.pretend_kit(PROVES)
         (folder.top / "cut.job").write_bytes(job)
         ended = folder.run("tools/try.sh", "cut.job")
-        assert (ended.returncode, ended.stdout.decode()) == (2, "%s: %s%s" % (said, words, MORE)), ended
+        assert (ended.returncode, ended.stdout.decode()) == (2, "%s: %s" % (said, words)), ended
     folder.pretend_program("cat >/dev/null; printf 'curve degr'")
     folder.pretend_kit(PROVES)
     ended = folder.run("tools/try.sh")
     assert (ended.returncode, ended.stdout) == (3, b"") and b"cut off" in ended.stderr, ended
 
 
-run_parts("tools/try.sh: 6 jobs looked at, 4 proofs, 3 refusals", look, prove, at_once, refusal)
+run_parts("tools/try.sh: 6 jobs looked at, 4 proofs, 4 refusals", look, prove, at_once, refusal)
