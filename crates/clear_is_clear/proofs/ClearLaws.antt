@@ -12,7 +12,7 @@ use Rattle.grid.specs.Limits.{clampsMost}
 use Rattle.grid.proofs.SizeLaws.{sizes-of-passes}
 use Rattle.span_walk.specs.SpanLists.{spanLists}
 use Rattle.spans_met.proofs.AnswerLaws.{number-none}
-use Rattle.spans_met_exact.proofs.CrossingLaws.{every-crossing-reported}
+use Rattle.spans_met_exact.proofs.CrossingLaws.{every-cut-reported}
 use Rattle.lines.specs.Lines.{clearLine}
 use Rattle.clamp_lines.proofs.CountLaws.{spanCount-most}
 use Rattle.format.specs.Format.{form1}
@@ -20,7 +20,7 @@ use Rattle.clamps.specs.Clamp.{Clamp, noClamp}
 use Rattle.job.specs.JobFormat.{IsJob}
 use Rattle.job_text.specs.Text.{rectangleOf, partOf, PartOf, isJob, joined, TextOf}
 use Rattle.job_text.proofs.ClampLaws.{clamp-passes}
-use Rattle.job_text.proofs.ReadLaws.{both-pass}
+use Rattle.job_text.proofs.ReadLaws.{all-pass}
 use Rattle.job_text.proofs.UniqueLaws.{one-text}
 use Rattle.clear_is_clear.specs.Clear.{linesOf, Among, first, Avoids, clampOf, ClearIsClear, ListsSpans, Tells, clear, met, EveryClampTold, ElseListed}
 use Rattle.clear_is_clear.proofs.SplitLaws.{Whole, whole-none, whole-both, Either, inFirst, inSecond, among-either, among-first, among-second}
@@ -59,43 +59,45 @@ module _ (part : ℕ → List ℕ) (whole : (k : ℕ) → Whole (part k)) where
           let same : k ≡ n = omega (arith, ltb-false k n e, h) in
           among-second line (linesOf (joined part n)) (linesOf (part n)) (rw same at g)
 
--- a clamp that no span may meet is avoided by the exact curve
-avoided : (m : ℕ) (c : Lists) (cs : List Clamp) (k : ℕ) → ToldClear m c cs k → Avoids m c (rectangleOf (getD cs k noClamp))
-avoided m c cs k t p q positive inside crossing =
-    let passed = both-pass m c cs (t .none) in
-    let size = sizes-of-passes m (c .knots) (c .xs) (c .ys) (passed .0) in
+-- a clamp that the cutter may meet on no span is avoided on the exact curve
+avoided : (m : ℕ) (c : Lists) (radius : ℕ) (cs : List Clamp) (k : ℕ) → ToldClear m c radius cs k → Avoids m c radius (rectangleOf (getD cs k noClamp))
+avoided m c radius cs k t p q positive inside reached =
+    let passed = all-pass m c radius cs (t .none) in
+    let size = sizes-of-passes m (c .knots) (c .xs) (c .ys) (passed .curve) in
     let clamp = rectangleOf (getD cs k noClamp) in
     let few = spanCount-most m (c .knots) (length (c .xs)) in
-    let reported = every-crossing-reported m (c .knots) (c .xs) (c .ys) clamp (spanLists (c .knots) (c .knots)) p q (number-none m (c .knots) (c .xs) (c .ys) clamp (length (c .knots)) (length (c .knots)) (passed .0) (clamp-passes cs k (passed .1) (t .there)) (omega (arith, few, size .knots)) (omega (arith, few, size .knots))) positive inside crossing in
+    let none =
+    number-none m (c .knots) (c .xs) (c .ys) clamp radius (length (c .knots)) (length (c .knots)) (passed .curve) (passed .short) (clamp-passes cs k (passed .upright) (t .there)) (omega (arith, few, size .knots)) (omega (arith, few, size .knots)) in
+    let reported = every-cut-reported m (c .knots) (c .xs) (c .ys) clamp radius (spanLists (c .knots) (c .knots)) p q none positive inside reached in
     omega (arith, reported .1 .listed, ap length (t .free))
 
 -- the parts of the text of a job
 module _ (bytes : List ℕ) (w : IsJob form1 bytes) where
-  part-same : (k : ℕ) (part : List ℕ) → PartOf bytes k part → part ≡ partOf (w .m) (w .c) (w .cs) k
-  part-same k part h = one-text .0 bytes k part (partOf (w .m) (w .c) (w .cs) k) h (isJob w refl)
+  part-same : (k : ℕ) (part : List ℕ) → PartOf bytes k part → part ≡ partOf (w .m) (w .c) (w .radius) (w .cs) k
+  part-same k part h = one-text .0 bytes k part (partOf (w .m) (w .c) (w .radius) (w .cs) k) h (isJob w refl)
 
-  text-same : (text : List ℕ) → TextOf bytes text → text ≡ joined (partOf (w .m) (w .c) (w .cs)) (clampsMost + 1)
+  text-same : (text : List ℕ) → TextOf bytes text → text ≡ joined (partOf (w .m) (w .c) (w .radius) (w .cs)) (clampsMost + 1)
   text-same text s =
-      one-text .1 bytes text (joined (partOf (w .m) (w .c) (w .cs)) (clampsMost + 1)) s
-      (record { part = partOf (w .m) (w .c) (w .cs); each = λ k. isJob w refl; whole = refl })
+      one-text .1 bytes text (joined (partOf (w .m) (w .c) (w .radius) (w .cs)) (clampsMost + 1)) s
+      (record { part = partOf (w .m) (w .c) (w .radius) (w .cs); each = λ k. isJob w refl; whole = refl })
 
 pub clear-is-clear : ClearIsClear
 clear-is-clear bytes text w k s h =
-    let part = partOf (w .m) (w .c) (w .cs) in
-    let found = in-part part (part-whole (w .m) (w .c) (w .cs)) (clampsMost + 1) (clearLine (suc k)) (rw (text-same bytes w text s) at h) in
-    let told = part-clear (w .m) (w .c) (w .cs) (found .number) k (found .stands) .1 in
-    (told .there, avoided (w .m) (w .c) (w .cs) k told)
+    let part = partOf (w .m) (w .c) (w .radius) (w .cs) in
+    let found = in-part part (part-whole (w .m) (w .c) (w .radius) (w .cs)) (clampsMost + 1) (clearLine (suc k)) (rw (text-same bytes w text s) at h) in
+    let told = part-clear (w .m) (w .c) (w .radius) (w .cs) (found .number) k (found .stands) .1 in
+    (told .there, avoided (w .m) (w .c) (w .radius) (w .cs) k told)
 
 pub every-clamp-told : EveryClampTold
 every-clamp-told bytes w k part none there h =
-    rw (part-same bytes w (suc k) part h, part-there (w .m) (w .c) (w .cs) k none there) (lines-tell (w .m) (w .c) (suc k) (clampOf w k))
+    rw (part-same bytes w (suc k) part h, part-there (w .m) (w .c) (w .radius) (w .cs) k none there) (lines-tell (w .m) (w .c) (w .radius) (suc k) (clampOf w k))
 
 pub else-listed : ElseListed
 else-listed bytes text w k part none there s h not = by (every-clamp-told bytes w k part none there h)
   where
-    by : Tells (w .m) (w .c) (suc k) (clampOf w k) part → ListsSpans (w .m) (w .c) (suc k) (clampOf w k) part
+    by : Tells (w .m) (w .c) (w .radius) (suc k) (clampOf w k) part → ListsSpans (w .m) (w .c) (w .radius) (suc k) (clampOf w k) part
     by (clear e f) =
-        let stands : Among (clearLine (suc k)) (linesOf (partOf (w .m) (w .c) (w .cs) (suc k))) =
+        let stands : Among (clearLine (suc k)) (linesOf (partOf (w .m) (w .c) (w .radius) (w .cs) (suc k))) =
         rw (sym (part-same bytes w (suc k) part h) ∙ f, line-lines (clear-is-line (suc k))) (first []) in
-        absurd (not (rw (text-same bytes w text s) (in-row (partOf (w .m) (w .c) (w .cs)) (part-whole (w .m) (w .c) (w .cs)) (clampsMost + 1) (suc k) (clearLine (suc k)) (omega (arith, there, w .storable .few)) stands)))
+        absurd (not (rw (text-same bytes w text s) (in-row (partOf (w .m) (w .c) (w .radius) (w .cs)) (part-whole (w .m) (w .c) (w .radius) (w .cs)) (clampsMost + 1) (suc k) (clearLine (suc k)) (omega (arith, there, w .storable .few)) stands)))
     by (met listed) = listed

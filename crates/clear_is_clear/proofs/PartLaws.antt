@@ -9,6 +9,7 @@ use lib.ListN.{length, getD, length-map}
 use borrow.Author.Tests.{eqb-true, ltb-true, lt-ltb}
 use Rattle.refusal.specs.Numbers.{accepted}
 use Rattle.curve.specs.Lists.{Lists}
+use Rattle.boxes.specs.Widening.{widened}
 use Rattle.boxes.specs.declared.Rectangle.{Rectangle}
 use Rattle.span_walk.specs.SpansMet.{spansMet, lowKnots}
 use Rattle.lines.specs.Lines.{meetLine, clearLine, meetLines}
@@ -62,44 +63,44 @@ unfolding lowKnots
 lowKnots-many ts spans = length-map spans _
 
 -- all lines on a clamp
-pub lines-tell : (m : ℕ) (c : Lists) (number : ℕ) (clamp : Rectangle) → Tells m c number clamp (clampLines m c number clamp)
-lines-tell m c number clamp = by (spansMet clamp m (c .knots) (c .xs) (c .ys)) refl
+pub lines-tell : (m : ℕ) (c : Lists) (radius number : ℕ) (clamp : Rectangle) → Tells m c radius number clamp (clampLines m c radius number clamp)
+lines-tell m c radius number clamp = by (spansMet (widened radius clamp) m (c .knots) (c .xs) (c .ys)) refl
   where
-    lows-many : length (lowKnots (c .knots) (spansMet clamp m (c .knots) (c .xs) (c .ys))) ≡ length (spansMet clamp m (c .knots) (c .xs) (c .ys))
-    lows-many = lowKnots-many (c .knots) (spansMet clamp m (c .knots) (c .xs) (c .ys))
+    lows-many : length (lowKnots (c .knots) (spansMet (widened radius clamp) m (c .knots) (c .xs) (c .ys))) ≡ length (spansMet (widened radius clamp) m (c .knots) (c .xs) (c .ys))
+    lows-many = lowKnots-many (c .knots) (spansMet (widened radius clamp) m (c .knots) (c .xs) (c .ys))
 
-    by : (spans : List ℕ) → spansMet clamp m (c .knots) (c .xs) (c .ys) ≡ spans → Tells m c number clamp (clampLines m c number clamp)
+    by : (spans : List ℕ) → spansMet (widened radius clamp) m (c .knots) (c .xs) (c .ys) ≡ spans → Tells m c radius number clamp (clampLines m c radius number clamp)
     by [] e = clear e (clampText-clear number _ _ (lows-many ∙ ap length e))
     by (i ∷ spans) e = met (record { some = omega (arith, ap length e); lines = clampText-lines number _ _ (omega (arith, lows-many, ap length e)) })
 
-tells-whole : {m : ℕ} {c : Lists} {number : ℕ} {clamp : Rectangle} {part : List ℕ} → Tells m c number clamp part → Whole part
-tells-whole {m} {c} {number} {clamp} {part} (clear e f) = rw f (line-whole (clear-is-line number))
-tells-whole {m} {c} {number} {clamp} {part} (met s) = rw (s .lines) (meetLines-whole number _ _)
+tells-whole : {m : ℕ} {c : Lists} {radius number : ℕ} {clamp : Rectangle} {part : List ℕ} → Tells m c radius number clamp part → Whole part
+tells-whole {m} {c} {radius} {number} {clamp} {part} (clear e f) = rw f (line-whole (clear-is-line number))
+tells-whole {m} {c} {radius} {number} {clamp} {part} (met s) = rw (s .lines) (meetLines-whole number _ _)
 
-tells-clear : {m : ℕ} {c : Lists} {number : ℕ} {clamp : Rectangle} {part : List ℕ} (k : ℕ) → Tells m c number clamp part → Among (clearLine k) (linesOf part)
-    → (number ≡ k) × (spansMet clamp m (c .knots) (c .xs) (c .ys) ≡ [])
-tells-clear {m} {c} {number} {clamp} {part} k (clear e f) h = (clear-once number k (among-line (clear-is-line number) (rw f at h)), e)
-tells-clear {m} {c} {number} {clamp} {part} k (met s) h = absurd (meetLines-not-clear k number _ _ (rw (s .lines) at h))
+tells-clear : {m : ℕ} {c : Lists} {radius number : ℕ} {clamp : Rectangle} {part : List ℕ} (k : ℕ) → Tells m c radius number clamp part → Among (clearLine k) (linesOf part)
+    → (number ≡ k) × (spansMet (widened radius clamp) m (c .knots) (c .xs) (c .ys) ≡ [])
+tells-clear {m} {c} {radius} {number} {clamp} {part} k (clear e f) h = (clear-once number k (among-line (clear-is-line number) (rw f at h)), e)
+tells-clear {m} {c} {radius} {number} {clamp} {part} k (met s) h = absurd (meetLines-not-clear k number _ _ (rw (s .lines) at h))
 
-module _ (m : ℕ) (c : Lists) (cs : List Clamp) where
+module _ (m : ℕ) (c : Lists) (radius : ℕ) (cs : List Clamp) where
   -- clamp k of the job is told to be clear: nothing is refused, it is there, and no span may meet it
   pub record ToldClear (k : ℕ) : Type 0 where
-    pub none : textNumber m c cs ≡ 0
+    pub none : textNumber m c radius cs ≡ 0
     pub there : k < length cs
-    pub free : spansMet (rectangleOf (getD cs k noClamp)) m (c .knots) (c .xs) (c .ys) ≡ []
+    pub free : spansMet (widened radius (rectangleOf (getD cs k noClamp))) m (c .knots) (c .xs) (c .ys) ≡ []
 
   -- the part of a clamp that is there
-  pub part-there : (k : ℕ) → textNumber m c cs ≡ 0 → k < length cs → partOf m c cs (suc k) ≡ clampLines m c (suc k) (rectangleOf (getD cs k noClamp))
+  pub part-there : (k : ℕ) → textNumber m c radius cs ≡ 0 → k < length cs → partOf m c radius cs (suc k) ≡ clampLines m c radius (suc k) (rectangleOf (getD cs k noClamp))
   unfolding partOf acceptedPart
   part-there k none h = rw (none, lt-ltb k (length cs) h)
 
-  accepted-whole : (n : ℕ) → Whole (acceptedPart m c cs n)
+  accepted-whole : (n : ℕ) → Whole (acceptedPart m c radius cs n)
   unfolding acceptedPart
   accepted-whole zero = line-whole (curve-is-line m (length (c .xs)) _)
   accepted-whole (suc k) = by (ltb k (length cs))
     where
-      by : (t : Bool) → Whole (cond t (clampLines m c (suc k) (rectangleOf (getD cs k noClamp))) [])
-      by true = tells-whole (lines-tell m c (suc k) (rectangleOf (getD cs k noClamp)))
+      by : (t : Bool) → Whole (cond t (clampLines m c radius (suc k) (rectangleOf (getD cs k noClamp))) [])
+      by true = tells-whole (lines-tell m c radius (suc k) (rectangleOf (getD cs k noClamp)))
       by false = whole-none
 
   refused-whole : (number n : ℕ) → Whole (refusedPart number n)
@@ -108,38 +109,38 @@ module _ (m : ℕ) (c : Lists) (cs : List Clamp) where
   refused-whole number (suc k) = whole-none
 
   -- every part is whole lines
-  pub part-whole : (n : ℕ) → Whole (partOf m c cs n)
+  pub part-whole : (n : ℕ) → Whole (partOf m c radius cs n)
   unfolding partOf
-  part-whole n = by (eqb (textNumber m c cs) accepted)
+  part-whole n = by (eqb (textNumber m c radius cs) accepted)
     where
-      by : (t : Bool) → Whole (cond t (acceptedPart m c cs n) (refusedPart (textNumber m c cs) n))
+      by : (t : Bool) → Whole (cond t (acceptedPart m c radius cs n) (refusedPart (textNumber m c radius cs) n))
       by true = accepted-whole n
-      by false = refused-whole (textNumber m c cs) n
+      by false = refused-whole (textNumber m c radius cs) n
 
   refused-clear : (number n k : ℕ) → Among (clearLine k) (linesOf (refusedPart number n)) → ⊥
   unfolding refusedPart
   refused-clear number zero k h = refused-not-clear number k (among-line (refused-is-line number) h)
   refused-clear number (suc n) k h = among-none (clearLine k) h
 
-  accepted-clear : (n k : ℕ) → textNumber m c cs ≡ 0 → Among (clearLine (suc k)) (linesOf (acceptedPart m c cs n)) → (n ≡ suc k) × ToldClear k
+  accepted-clear : (n k : ℕ) → textNumber m c radius cs ≡ 0 → Among (clearLine (suc k)) (linesOf (acceptedPart m c radius cs n)) → (n ≡ suc k) × ToldClear k
   unfolding acceptedPart
   accepted-clear zero k none h = absurd (curve-not-clear m (length (c .xs)) _ (suc k) (among-line (curve-is-line m (length (c .xs)) _) h))
   accepted-clear (suc j) k none h = by (ltb j (length cs)) refl h
     where
-      by : (t : Bool) → ltb j (length cs) ≡ t → Among (clearLine (suc k)) (linesOf (cond t (clampLines m c (suc j) (rectangleOf (getD cs j noClamp))) []))
+      by : (t : Bool) → ltb j (length cs) ≡ t → Among (clearLine (suc k)) (linesOf (cond t (clampLines m c radius (suc j) (rectangleOf (getD cs j noClamp))) []))
           → (suc j ≡ suc k) × ToldClear k
       by true e g =
-          let told = tells-clear (suc k) (lines-tell m c (suc j) (rectangleOf (getD cs j noClamp))) g in
+          let told = tells-clear (suc k) (lines-tell m c radius (suc j) (rectangleOf (getD cs j noClamp))) g in
           let same : j ≡ k = omega (arith, told .0) in
           (told .0, rw (sym same) (record { none = none; there = ltb-true j (length cs) e; free = told .1 }))
       by false e g = absurd (among-none (clearLine (suc k)) g)
 
   -- "clamp K clear" in a part
-  pub part-clear : (n k : ℕ) → Among (clearLine (suc k)) (linesOf (partOf m c cs n)) → (n ≡ suc k) × ToldClear k
+  pub part-clear : (n k : ℕ) → Among (clearLine (suc k)) (linesOf (partOf m c radius cs n)) → (n ≡ suc k) × ToldClear k
   unfolding partOf
-  part-clear n k h = by (eqb (textNumber m c cs) accepted) refl h
+  part-clear n k h = by (eqb (textNumber m c radius cs) accepted) refl h
     where
-      by : (t : Bool) → eqb (textNumber m c cs) accepted ≡ t → Among (clearLine (suc k)) (linesOf (cond t (acceptedPart m c cs n) (refusedPart (textNumber m c cs) n)))
+      by : (t : Bool) → eqb (textNumber m c radius cs) accepted ≡ t → Among (clearLine (suc k)) (linesOf (cond t (acceptedPart m c radius cs n) (refusedPart (textNumber m c radius cs) n)))
           → (n ≡ suc k) × ToldClear k
-      by true e g = accepted-clear n k (eqb-true (textNumber m c cs) accepted e) g
-      by false e g = absurd (refused-clear (textNumber m c cs) n (suc k) g)
+      by true e g = accepted-clear n k (eqb-true (textNumber m c radius cs) accepted e) g
+      by false e g = absurd (refused-clear (textNumber m c radius cs) n (suc k) g)
