@@ -15,28 +15,29 @@ use Rattle.feed.specs.Ending.{Holds}
 use Rattle.bursts.specs.Bursts.{fedAll, joined}
 use Rattle.bursts.proofs.HeldLaws.{some-held}
 use Rattle.bursts.proofs.JoinedLaws.{one-more, fed-is-held}
+use Rattle.tsaghnobir.specs.Places.{JobPlaces}
 use Rattle.tsaghnobir.specs.Outcomes.{JobHandsBack, FeedHandsBack, short, told}
 use Rattle.door_outcomes.specs.Exports.{fedByExport, FeedEndDetermined, FedHandsBackAsJoined}
 use Rattle.door_outcomes.proofs.OutcomeLaws.{job-determined}
 
-module _ {received : ℕ} {work : List ℕ} {before : Lists} {sidesBefore : List ℤ} {held : ℕ × ℕ × ℕ × ℕ} where
+module _ {received : ℕ} {work : List ℕ} {before : Lists} {sidesBefore : List ℤ} {held : JobPlaces} where
   -- with a list that is long enough, the bytes that are held are read
-  end-handed : {number : ℕ} {now : Lists} {sidesNow : List ℤ} {holds : ℕ × ℕ × ℕ × ℕ} {count : ℕ} → jobMost ≤ length work
+  end-handed : {number : ℕ} {now : Lists} {sidesNow : List ℤ} {holds : JobPlaces} {count : ℕ} → jobMost ≤ length work
       → FeedHandsBack received work before sidesBefore held number now sidesNow holds count → (bytes : List ℕ) → Holds received work bytes
       → JobHandsBack bytes before sidesBefore held number now sidesNow holds × (count ≡ 0)
   end-handed long (short less) bytes held-bytes = absurd (omega arith)
   end-handed long (told _ _ _ _ _ hands) bytes held-bytes = (hands bytes held-bytes, refl)
 
-  one-end : {number other : ℕ} {now then : Lists} {sides sidesThen : List ℤ} {holds instead : ℕ × ℕ × ℕ × ℕ} {count recount : ℕ}
+  one-end : {number other : ℕ} {now then : Lists} {sides sidesThen : List ℤ} {holds instead : JobPlaces} {count recount : ℕ}
       → FeedHandsBack received work before sidesBefore held number now sides holds count → FeedHandsBack received work before sidesBefore held other then sidesThen instead recount
-      → (number ≡ other) × (_≡_ {A = Lists × List ℤ} (now, sides) (then, sidesThen)) × (_≡_ {A = (ℕ × ℕ × ℕ × ℕ) × ℕ} (holds, count) (instead, recount))
+      → (number ≡ other) × (_≡_ {A = Lists × List ℤ} (now, sides) (then, sidesThen)) × (_≡_ {A = JobPlaces × ℕ} (holds, count) (instead, recount))
   one-end (short less) (short also) = (refl, refl, refl)
   one-end (short less) (told long _ _ _ _ hands) = absurd (omega arith)
   one-end (told long _ _ _ _ hands) (short less) = absurd (omega arith)
   one-end (told long n now sides holds hands) (told _ k then sidesThen instead also) =
       let bytes = some-held received work in
       let same = job-determined (bytes .0) before sidesBefore held n k (now, sides) (then, sidesThen) holds instead (hands (bytes .0) (bytes .1)) (also (bytes .0) (bytes .1)) in
-      (same .0, same .1, ap₂ (λ (p : ℕ × ℕ × ℕ × ℕ) (c : ℕ). (p, c)) (same .2) refl)
+      (same .0, same .1, ap₂ (λ (p : JobPlaces) (c : ℕ). (p, c)) (same .2) refl)
 
 pub feed-end-determined : FeedEndDetermined
 feed-end-determined received work before sidesBefore held n k (now, sides) (then, sidesThen) (holds, count) (instead, recount) p q = one-end p q

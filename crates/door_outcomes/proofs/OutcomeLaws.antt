@@ -98,22 +98,22 @@ both-same (a, b) (c, d) p q = rw (p, q)
 
 pub job-determined : JobDetermined
 job-determined bytes before sides held n k now then holds instead p q =
-    let one : JobRead bytes before sides (jobAnswer (p .verdict) (p .m) (length (p .c .xs)) (length (p .cs))) (now .0) (now .1) =
-    record { verdict = p .verdict; m = p .m; c = p .c; cs = p .cs; comesTo = p .comesTo; answers = refl; hands = rw (p .answers) at (p .hands); clampsNow = rw (p .answers) at (p .clampsNow) } in
-    let other : JobRead bytes before sides (jobAnswer (q .verdict) (q .m) (length (q .c .xs)) (length (q .cs))) (then .0) (then .1) =
-    record { verdict = q .verdict; m = q .m; c = q .c; cs = q .cs; comesTo = q .comesTo; answers = refl; hands = rw (q .answers) at (q .hands); clampsNow = rw (q .answers) at (q .clampsNow) } in
+    let here : ℕ × ℕ × ℕ × ℕ = (p .m, length (p .c .xs), p .radius, length (p .cs)) in
+    let there : ℕ × ℕ × ℕ × ℕ = (q .m, length (q .c .xs), q .radius, length (q .cs)) in
+    let one : JobRead bytes before sides (jobAnswer (p .verdict) (p .m) (length (p .c .xs)) (p .radius) (length (p .cs))) (now .0) (now .1) =
+    record { verdict = p .verdict; m = p .m; c = p .c; radius = p .radius; cs = p .cs; comesTo = p .comesTo; answers = refl; hands = rw (p .answers) at (p .hands); clampsNow = rw (p .answers) at (p .clampsNow) } in
+    let other : JobRead bytes before sides (jobAnswer (q .verdict) (q .m) (length (q .c .xs)) (q .radius) (length (q .cs))) (then .0) (then .1) =
+    record { verdict = q .verdict; m = q .m; c = q .c; radius = q .radius; cs = q .cs; comesTo = q .comesTo; answers = refl; hands = rw (q .answers) at (q .hands); clampsNow = rw (q .answers) at (q .clampsNow) } in
     let same = job-reading-determined bytes before sides _ _ (now .0) (then .0) (now .1) (then .1) one other in
-    let told = told-same job-told (p .verdict) (q .verdict) (p .m, length (p .c .xs), length (p .cs)) (q .m, length (q .c .xs), length (q .cs))
-    (sym (job-by (p .verdict) (p .m) (length (p .c .xs)) (length (p .cs))) ∙ same .0 ∙ job-by (q .verdict) (q .m) (length (q .c .xs)) (length (q .cs))) in
+    let told = told-same job-told (p .verdict) (q .verdict) here there
+    (sym (job-by (p .verdict) (p .m) (length (p .c .xs)) (p .radius) (length (p .cs))) ∙ same .0 ∙ job-by (q .verdict) (q .m) (length (q .c .xs)) (q .radius) (length (q .cs))) in
     let numbers : numberOf (p .verdict) ≡ numberOf (q .verdict) = ap numberOf (told .0) in
     let refuses : (number place : ℕ) → p .verdict ≡ broken number place → number ≡ 0 → ⊥ = λ number place. job-refuses (p .comesTo) in
-    let degrees : placed n (p .m) (held .0) ≡ placed k (q .m) (held .0) =
-    rw (p .answers, q .answers, ← numbers) (placed-same (p .verdict) refuses (p .m) (q .m) (held .0) (λ z. ap (λ (v : ℕ × ℕ × ℕ). v .0) (told .1 z))) in
-    let points : placed n (length (p .c .xs)) (held .1) ≡ placed k (length (q .c .xs)) (held .1) =
-    rw (p .answers, q .answers, ← numbers)
-    (placed-same (p .verdict) refuses (length (p .c .xs)) (length (q .c .xs)) (held .1) (λ z. ap (λ (v : ℕ × ℕ × ℕ). v .1) (told .1 z))) in
-    let clamps : placed n (length (p .cs)) (held .2) ≡ placed k (length (q .cs)) (held .2) =
-    rw (p .answers, q .answers, ← numbers)
-    (placed-same (p .verdict) refuses (length (p .cs)) (length (q .cs)) (held .2) (λ z. ap (λ (v : ℕ × ℕ × ℕ). v .2) (told .1 z))) in
-    let place : placeOr (p .verdict) (held .3) ≡ placeOr (q .verdict) (held .3) = ap (λ (v : Verdict). placeOr v (held .3)) (told .0) in
-    (p .answers ∙ numbers ∙ sym (q .answers), both-same now then (same .1) (same .2), p .places ∙ (rw (degrees, points, clamps, place)) ∙ sym (q .places))
+    -- each single number, whichever of the four it is
+    let alike : (pick : ℕ × ℕ × ℕ × ℕ → ℕ) (kept : ℕ) → placed n (pick here) kept ≡ placed k (pick there) kept =
+    λ pick kept. rw (p .answers, q .answers, ← numbers) (placed-same (p .verdict) refuses (pick here) (pick there) kept (λ z. ap pick (told .1 z))) in
+    let place : placeOr (p .verdict) (held .4) ≡ placeOr (q .verdict) (held .4) = ap (λ (v : Verdict). placeOr v (held .4)) (told .0) in (
+      p .answers ∙ numbers ∙ sym (q .answers),
+      both-same now then (same .1) (same .2),
+      p .places ∙ (rw (alike (λ v. v .0) (held .0), alike (λ v. v .1) (held .1), alike (λ v. v .2) (held .2), alike (λ v. v .3) (held .3), place)) ∙ sym (q .places),
+    )

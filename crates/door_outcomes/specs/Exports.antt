@@ -21,7 +21,7 @@ use Rattle.bursts.specs.Bursts.{joined}
 use Rattle.domain.specs.Parameter.{parameterNumber}
 use Rattle.carrying.specs.Carrying.{onAxis, partOf}
 use Rattle.carrying.specs.declared.Axis.{Axis}
-use Rattle.tsaghnobir.specs.Places.{placed, firstCarrying}
+use Rattle.tsaghnobir.specs.Places.{placed, firstCarrying, JobPlaces}
 use Rattle.tsaghnobir.specs.Outcomes.{RemovalHandsBack, CompactionHandsBack, RecordHandsBack, JobHandsBack, FeedHandsBack}
 
 -- a contract permits one number, one content of the lent lists and one of the lent single numbers
@@ -43,15 +43,15 @@ RecordDetermined = (bytes : List ℕ) (before : Lists) (held : ℕ × ℕ × ℕ
 -- reading a job, with the list of sides as a fourth
 abbrev pub JobDetermined : Type 0
 JobDetermined =
-    (bytes : List ℕ) (before : Lists) (sidesBefore : List ℤ) (held : ℕ × ℕ × ℕ × ℕ)
+    (bytes : List ℕ) (before : Lists) (sidesBefore : List ℤ) (held : JobPlaces)
     → OneOutcome (λ (number : ℕ) (now : Lists × List ℤ). JobHandsBack bytes before sidesBefore held number (now .0) (now .1))
 
--- the end of a job in bursts, with the count of bytes received as a fifth single number
+-- the end of a job in bursts, with the count of bytes received as a sixth single number
 abbrev pub FeedEndDetermined : Type 0
 FeedEndDetermined =
-    (received : ℕ) (work : List ℕ) (before : Lists) (sidesBefore : List ℤ) (held : ℕ × ℕ × ℕ × ℕ)
+    (received : ℕ) (work : List ℕ) (before : Lists) (sidesBefore : List ℤ) (held : JobPlaces)
     → OneOutcome
-    (λ (number : ℕ) (now : Lists × List ℤ) (holds : (ℕ × ℕ × ℕ × ℕ) × ℕ).
+    (λ (number : ℕ) (now : Lists × List ℤ) (holds : JobPlaces × ℕ).
     FeedHandsBack received work before sidesBefore held number (now .0) (now .1) (holds .0) (holds .1))
 
 -- count and work list after bursts, each left by `tsb_feed` and handed on unaltered
@@ -63,8 +63,8 @@ fedByExport received work (burst ∷ bursts) =
 -- bursts fed from a count of 0 on, and then the end: what reading a job hands back for all of them joined, and a count of 0 again
 abbrev pub FedHandsBackAsJoined : Type 0
 FedHandsBackAsJoined =
-    (work : List ℕ) → jobMost ≤ length work → (bursts : List (List ℕ)) (before : Lists) (sidesBefore : List ℤ) (held : ℕ × ℕ × ℕ × ℕ)
-    (number : ℕ) (now : Lists) (sidesNow : List ℤ) (holds : ℕ × ℕ × ℕ × ℕ) (received : ℕ)
+    (work : List ℕ) → jobMost ≤ length work → (bursts : List (List ℕ)) (before : Lists) (sidesBefore : List ℤ) (held : JobPlaces)
+    (number : ℕ) (now : Lists) (sidesNow : List ℤ) (holds : JobPlaces) (received : ℕ)
     → FeedHandsBack (fedByExport 0 work bursts .0) (fedByExport 0 work bursts .1) before sidesBefore held number now sidesNow holds received
     → JobHandsBack (joined bursts) before sidesBefore held number now sidesNow holds × (received ≡ 0)
 
@@ -84,16 +84,16 @@ RecordPlaceTold =
 
 abbrev pub JobPlaceTold : Type 0
 JobPlaceTold =
-    (bytes : List ℕ) (before : Lists) (sidesBefore : List ℤ) (held : ℕ × ℕ × ℕ × ℕ) (number : ℕ) (now : Lists) (sidesNow : List ℤ) (holds : ℕ × ℕ × ℕ × ℕ)
-    → JobHandsBack bytes before sidesBefore held number now sidesNow holds → PlaceTold jobs bytes number (held .3) (holds .3)
+    (bytes : List ℕ) (before : Lists) (sidesBefore : List ℤ) (held : JobPlaces) (number : ℕ) (now : Lists) (sidesNow : List ℤ) (holds : JobPlaces)
+    → JobHandsBack bytes before sidesBefore held number now sidesNow holds → PlaceTold jobs bytes number (held .4) (holds .4)
 
 -- of the end of a job in bursts too, whichever bytes are held
 abbrev pub FeedEndPlaceTold : Type 0
 FeedEndPlaceTold =
-    (received : ℕ) (work : List ℕ) (before : Lists) (sidesBefore : List ℤ) (held : ℕ × ℕ × ℕ × ℕ)
-    (number : ℕ) (now : Lists) (sidesNow : List ℤ) (holds : ℕ × ℕ × ℕ × ℕ) (count : ℕ)
+    (received : ℕ) (work : List ℕ) (before : Lists) (sidesBefore : List ℤ) (held : JobPlaces)
+    (number : ℕ) (now : Lists) (sidesNow : List ℤ) (holds : JobPlaces) (count : ℕ)
     → FeedHandsBack received work before sidesBefore held number now sidesNow holds count
-    → (bytes : List ℕ) → Holds received work bytes → PlaceTold jobs bytes number (held .3) (holds .3)
+    → (bytes : List ℕ) → Holds received work bytes → PlaceTold jobs bytes number (held .4) (holds .4)
 
 -- where nothing is refused, the entries `first` to `first` + m are inside the lists, and on either axis they are the part that the carrying call hands back
 abbrev pub FirstFindsCarrying : Type 0

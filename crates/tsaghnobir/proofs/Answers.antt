@@ -57,18 +57,19 @@ read-told = record { two = read-variants; not-done = λ n p v e. cc; not-refused
         let place : p ≡ q = cc in
         ap₂ broken number place
 
--- degree, number of points and number of clamps
-same-job : (v w : ℕ × ℕ × ℕ) → job.Job (v .0) (v .1) (v .2) ≡ job.Job (w .0) (w .1) (w .2) → v ≡ w
-same-job (a, b, c) (d, f, g) e =
-    let degree : a ≡ d = cc in
-    let points : b ≡ f = cc in
-    let clamps : c ≡ g = cc in
-    rw (degree, points, clamps)
+-- degree, number of points, radius and number of clamps
+same-job : (v w : ℕ × ℕ × ℕ × ℕ) → job.Job (v .0) (v .1) (v .2) (v .3) ≡ job.Job (w .0) (w .1) (w .2) (w .3) → v ≡ w
+same-job (a, b, c, d) (f, g, h, k) e =
+    let degree : a ≡ f = cc in
+    let points : b ≡ g = cc in
+    let radius : c ≡ h = cc in
+    let clamps : d ≡ k = cc in
+    rw (degree, points, radius, clamps)
 
-job-variants : Variants (λ (v : ℕ × ℕ × ℕ). job.Job (v .0) (v .1) (v .2)) job.Refused
+job-variants : Variants (λ (v : ℕ × ℕ × ℕ × ℕ). job.Job (v .0) (v .1) (v .2) (v .3)) job.Refused
 job-variants = record { apart = λ v n e. cc; same-value = same-job; same-number = λ m n e. cc }
 
-pub job-told : Told (λ (v : ℕ × ℕ × ℕ). job.Job (v .0) (v .1) (v .2)) job.Refused job.Broken
+pub job-told : Told (λ (v : ℕ × ℕ × ℕ × ℕ). job.Job (v .0) (v .1) (v .2) (v .3)) job.Refused job.Broken
 job-told = record { two = job-variants; not-done = λ n p v e. cc; not-refused = λ n p k e. cc; same-fault = same-place }
   where
     same-place : (n p k q : ℕ) → job.Broken n p ≡ job.Broken k q → broken n p ≡ broken k q

@@ -15,7 +15,7 @@ use Rattle.feed.specs.Ending as ending
 use Rattle.feed.specs.Ending.{FeedEnds}
 use Rattle.tsaghnobir.specs.Answered.{jobPlaced}
 use Rattle.tsaghnobir.specs.Outcomes.{FeedHandsBack, short, told}
-use Rattle.tsaghnobir.specs.Places.{placed}
+use Rattle.tsaghnobir.specs.Places.{placed, JobPlaces}
 use Rattle.tsaghnobir.proofs.ReadingLaws.{job-placed}
 use Rattle.tsaghnobir.proofs.ArmLaws.{done-arm, refused-arm, placed-refused}
 use Rattle.tsaghnobir.proofs.Answers.{burst-variants}
@@ -39,7 +39,7 @@ module _ (state : Feed) (burst work : List ℕ) {now : List ℕ} {answer : Burst
       (sym (known .0), (rw (known .0) at kept, placed-refused n (receivedWith (state .received) burst work) (state .received) (known .1)))
 
 -- the end
-pub feed-placed : {state : Feed} {work : List ℕ} {before now : Lists} {sidesBefore sidesNow : List ℤ} {r : EndAnswer} (held : ℕ × ℕ × ℕ × ℕ)
+pub feed-placed : {state : Feed} {work : List ℕ} {before now : Lists} {sidesBefore sidesNow : List ℤ} {r : EndAnswer} (held : JobPlaces)
     → FeedEnds state work before sidesBefore r now sidesNow
     → FeedHandsBack (state .received) work before sidesBefore held (jobPlaced (r .answer) held .0) now sidesNow (jobPlaced (r .answer) held .1) (r .state .received)
 feed-placed held (ending.short less) = short less

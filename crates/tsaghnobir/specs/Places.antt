@@ -12,6 +12,10 @@ use Rattle.boxes.specs.declared.Rectangle.{Rectangle}
 abbrev pub placed : {A : Type 0} → ℕ → A → A → A
 placed number value before = cond (eqb number 0) value before
 
+-- "The record on disk": the single numbers lent to a call that reads a job: degree, points, radius, clamps, and the place of a fault
+abbrev pub JobPlaces : Type 0
+JobPlaces = ℕ × ℕ × ℕ × ℕ × ℕ
+
 -- "The point at a parameter": the first of the points i-m to i that carry the span i of t
 abbrev pub firstCarrying : ℕ → List ℕ → List ℤ → ℕ → ℕ
 firstCarrying m ts xs t = spanOf ts m (length xs - 1) t 1 - m

@@ -38,15 +38,16 @@ pub extern "C" fn tsb_feed_end(
     clamps: &mut [i32],
     degree: &mut u32,
     points: &mut usize,
+    radius: &mut u32,
     clamp_count: &mut usize,
     place: &mut usize,
     received: &mut usize,
 ) -> u32
     ensures answer { λ r. ⌜ FeedHandsBack (now (received .entry)) (now (work .entry))
         (lists (now («out_knots» .entry)) (now («out_xs» .entry)) (now («out_ys» .entry))) (now (clamps .entry))
-        (now (degree .entry), now (points .entry), now («clamp_count» .entry), now (place .entry)) r
+        (now (degree .entry), now (points .entry), now (radius .entry), now («clamp_count» .entry), now (place .entry)) r
         (lists (now («out_knots» .exit)) (now («out_xs» .exit)) (now («out_ys» .exit))) (now (clamps .exit))
-        (now (degree .exit), now (points .exit), now («clamp_count» .exit), now (place .exit)) (now (received .exit)) ⌝ }
+        (now (degree .exit), now (points .exit), now (radius .exit), now («clamp_count» .exit), now (place .exit)) (now (received .exit)) ⌝ }
 {
     let state = Feed {
         received: *received,
@@ -54,5 +55,5 @@ pub extern "C" fn tsb_feed_end(
     let ended = feed::feed_end(state, work, out_knots, out_xs, out_ys, clamps);
     *received = ended.state.received;
     let answer = ended.answer;
-    bytes::place_job(answer, degree, points, clamp_count, place)
+    bytes::place_job(answer, degree, points, radius, clamp_count, place)
 }

@@ -78,16 +78,17 @@ pub extern "C" fn tsb_read_job(
     clamps: &mut [i32],
     degree: &mut u32,
     points: &mut usize,
+    radius: &mut u32,
     clamp_count: &mut usize,
     place: &mut usize,
 ) -> u32
     ensures answer { λ r. ⌜ JobHandsBack (now (bytes .entry)) (lists (now («out_knots» .entry)) (now («out_xs» .entry)) (now («out_ys» .entry)))
-        (now (clamps .entry)) (now (degree .entry), now (points .entry), now («clamp_count» .entry), now (place .entry)) r
+        (now (clamps .entry)) (now (degree .entry), now (points .entry), now (radius .entry), now («clamp_count» .entry), now (place .entry)) r
         (lists (now («out_knots» .exit)) (now («out_xs» .exit)) (now («out_ys» .exit))) (now (clamps .exit))
-        (now (degree .exit), now (points .exit), now («clamp_count» .exit), now (place .exit)) ⌝ }
+        (now (degree .exit), now (points .exit), now (radius .exit), now («clamp_count» .exit), now (place .exit)) ⌝ }
 {
     let answer = job::read_job(bytes, out_knots, out_xs, out_ys, clamps);
-    place_job(answer, degree, points, clamp_count, place)
+    place_job(answer, degree, points, radius, clamp_count, place)
 }
 
 // Writes what reading a job answers through the places lent for it, and answers the number.
@@ -95,20 +96,23 @@ pub(crate) fn place_job(
     answer: JobAnswer,
     degree: &mut u32,
     points: &mut usize,
+    radius: &mut u32,
     clamp_count: &mut usize,
     place: &mut usize,
 ) -> u32
-    ensures answer { λ r. ⌜ (r, (now (degree .exit), now (points .exit), now («clamp_count» .exit), now (place .exit)))
-        ≡ jobPlaced answer (now (degree .entry), now (points .entry), now («clamp_count» .entry), now (place .entry)) ⌝ }
+    ensures answer { λ r. ⌜ (r, (now (degree .exit), now (points .exit), now (radius .exit), now («clamp_count» .exit), now (place .exit)))
+        ≡ jobPlaced answer (now (degree .entry), now (points .entry), now (radius .entry), now («clamp_count» .entry), now (place .entry)) ⌝ }
 {
     match answer {
         JobAnswer::Job {
             degree: m,
             points: count,
+            radius: cutter,
             clamps: sides,
         } => {
             *degree = m;
             *points = count;
+            *radius = cutter;
             *clamp_count = sides;
             refusal::ACCEPTED
         }

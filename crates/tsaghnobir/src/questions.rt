@@ -1,4 +1,4 @@
-// What can be asked of a curve: whether it is one, its point and carrying points at a parameter, and the spans that may meet a clamp.
+// What can be asked of a curve: whether it is one, its point and carrying points at a parameter, and the spans on which a cutter may meet a clamp.
 use boxes::Rectangle;
 use point_at::PointAnswer;
 use spans_met::SpansAnswer;
@@ -8,6 +8,7 @@ ghost use Rattle.curve.specs.Lists.{lists};
 ghost use Rattle.grid.specs.Check.{checkNumber};
 ghost use Rattle.domain.specs.Parameter.{parameterNumber};
 ghost use Rattle.point_at.specs.Point.{pointOf};
+ghost use Rattle.boxes.specs.Widening.{widened};
 ghost use Rattle.span_walk.specs.SpansMet.{spansMet};
 ghost use Rattle.span_walk.specs.SpanLists.{spanLists, knotsMet, spansHandedOver};
 ghost use Rattle.spans_met.specs.Answer.{listNumber};
@@ -78,16 +79,17 @@ pub extern "C" fn tsb_spans(
     high_x: i32,
     low_y: i32,
     high_y: i32,
+    radius: u32,
     lows: &mut [u16],
     highs: &mut [u16],
     count: &mut usize,
 ) -> u32
     ensures answer { λ r. ⌜ r ≡ listNumber degree (lists (now (knots .entry)) (now (xs .entry)) (now (ys .entry))) (clampOf «low_x» «high_x» «low_y» «high_y»)
-        (spanLists (now (lows .entry)) (now (highs .entry))) ⌝ }
+        radius (spanLists (now (lows .entry)) (now (highs .entry))) ⌝ }
     ensures result { λ r. ⌜ spanLists (now (lows .exit)) (now (highs .exit))
-        ≡ spansHandedOver r (knotsMet (clampOf «low_x» «high_x» «low_y» «high_y») degree (now (knots .entry)) (now (xs .entry)) (now (ys .entry)))
+        ≡ spansHandedOver r (knotsMet (widened radius (clampOf «low_x» «high_x» «low_y» «high_y»)) degree (now (knots .entry)) (now (xs .entry)) (now (ys .entry)))
         (spanLists (now (lows .entry)) (now (highs .entry))) ⌝ }
-    ensures count { λ r. ⌜ now (count .exit) ≡ placed r (length (spansMet (clampOf «low_x» «high_x» «low_y» «high_y») degree
+    ensures count { λ r. ⌜ now (count .exit) ≡ placed r (length (spansMet (widened radius (clampOf «low_x» «high_x» «low_y» «high_y»)) degree
         (now (knots .entry)) (now (xs .entry)) (now (ys .entry)))) (now (count .entry)) ⌝ }
 {
     let clamp = Rectangle {
@@ -96,7 +98,7 @@ pub extern "C" fn tsb_spans(
         low_y,
         high_y,
     };
-    let answer = spans_met::list_spans_met(degree, knots, xs, ys, clamp, lows, highs);
+    let answer = spans_met::list_spans_met(degree, knots, xs, ys, clamp, radius, lows, highs);
     match answer {
         SpansAnswer::Listed(spans) => {
             *count = spans;

@@ -11,20 +11,20 @@ place-job-requires : tie.Need-place-job-requires
 place-job-requires c κs = tt
 
 same-length : tie.Need-same-length
-same-length c = c .before .before .before .before .before .before .before .before .before .before .feed-end .kept .1 .1 .0
+same-length c = c .before .before .before .before .before .before .before .before .before .before .before .feed-end .kept .1 .1 .0
 
 same-length-2 : tie.Need-same-length-2
-same-length-2 c = c .before .before .before .before .before .before .before .before .before .before .feed-end .kept .1 .1 .1 .0
+same-length-2 c = c .before .before .before .before .before .before .before .before .before .before .before .feed-end .kept .1 .1 .1 .0
 
 same-length-3 : tie.Need-same-length-3
-same-length-3 c = c .before .before .before .before .before .before .before .before .before .before .feed-end .kept .1 .1 .1 .1 .0
+same-length-3 c = c .before .before .before .before .before .before .before .before .before .before .before .feed-end .kept .1 .1 .1 .1 .0
 
 same-length-4 : tie.Need-same-length-4
-same-length-4 c = c .before .before .before .before .before .before .before .before .before .before .feed-end .kept .1 .1 .1 .1 .1 .0
+same-length-4 c = c .before .before .before .before .before .before .before .before .before .before .before .feed-end .kept .1 .1 .1 .1 .1 .0
 
 returns : tie.Need-returns
 returns c =
-    let ended = c .before .before .before .before .before .before .before .before .before .before .feed-end in
+    let ended = c .before .before .before .before .before .before .before .before .before .before .before .feed-end in
     rw (ap (λ r. r .0) (c .place-job .ensures), ap (λ r. r .1) (c .place-job .ensures)) (feed-placed _ (ended .ensures))
 
 pub tsb-feed-end-spec : {M : Type 1} → statement M

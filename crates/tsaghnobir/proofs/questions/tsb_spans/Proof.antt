@@ -16,10 +16,10 @@ enum-known-answer-2 : tie.Need-enum-known-answer-2
 enum-known-answer-2 c = c .match .keys2
 
 same-length : tie.Need-same-length
-same-length c = c .before .before .before .before .before .before .before .list-spans-met .kept .1 .1 .1 .1 .1 .0
+same-length c = c .before .before .before .before .before .before .before .list-spans-met .kept .1 .1 .1 .1 .1 .1 .0
 
 same-length-2 : tie.Need-same-length-2
-same-length-2 c = c .before .before .before .before .before .before .before .list-spans-met .kept .1 .1 .1 .1 .1 .1 .0
+same-length-2 c = c .before .before .before .before .before .before .before .list-spans-met .kept .1 .1 .1 .1 .1 .1 .1 .0
 
 returns : tie.Need-returns
 returns c =
@@ -30,10 +30,10 @@ returns c =
     (sym (arm .0), (rw (arm .0) at (rw sides at (call .ensures .1)), arm .1))
 
 same-length-3 : tie.Need-same-length-3
-same-length-3 c = c .before .before .before .before .before .before .before .list-spans-met .kept .1 .1 .1 .1 .1 .0
+same-length-3 c = c .before .before .before .before .before .before .before .list-spans-met .kept .1 .1 .1 .1 .1 .1 .0
 
 same-length-4 : tie.Need-same-length-4
-same-length-4 c = c .before .before .before .before .before .before .before .list-spans-met .kept .1 .1 .1 .1 .1 .1 .0
+same-length-4 c = c .before .before .before .before .before .before .before .list-spans-met .kept .1 .1 .1 .1 .1 .1 .1 .0
 
 returns-2 : tie.Need-returns-2
 returns-2 c =
