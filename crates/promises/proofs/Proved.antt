@@ -35,7 +35,8 @@ use Rattle.span.specs.Span.{spanOf}
 use Rattle.span.proofs.SpanLaws.{span-unique, span-holds, inDomain-says}
 use Rattle.exact.proofs.DomainLaws.{domain-span}
 use Rattle.point_at_exact.proofs.PointNearLaws.{point-near-exact}
-use Rattle.spans_met_exact.proofs.CrossingLaws.{every-crossing-reported}
+use Rattle.spans_met_exact.proofs.CrossingLaws.{every-cut-reported, every-crossing-reported}
+use Rattle.spans_met_exact.proofs.DistanceLaws.{no-width-is-the-point}
 use Rattle.knots_exact.proofs.InsertionLaws.{insert-keeps-curve}
 use Rattle.knots_exact.proofs.RemovalLaws.{remove-keeps-curve}
 use Rattle.joining_exact.proofs.EitherLaws.{join-passes, join-is-hermite, join-meets-points, join-has-entries, meeting-inserted, both-are-one-curve}
@@ -48,7 +49,7 @@ use Rattle.job_text.proofs.UniqueLaws.{one-text, broken-is-one-line}
 use Rattle.clear_is_clear.proofs.ClearLaws.{clear-is-clear, every-clamp-told, else-listed}
 use Rattle.knots_exact.proofs.CompactionLaws.{compact-keeps-curve, editing-passes}
 use Rattle.compact.proofs.OutcomeLaws as Compaction
-use Rattle.promises.specs.Promises.{CheckGivesLowestRow, RefusalsAnswerFirst, ResultsHandedOver, CarryingPointsCarry, SpansListedExactly, InsertedEntryByEntry, InsertedThenRemoved, CompactionTakesWhatItCounts, JoinedCurveMeetsPoints, MeetingPointsDropOut, ExportsDetermined, EveryParameterHasItsSpan, ComputedPointNearExact, CrossingsReported, InsertionKeepsCurve, RemovalKeepsCurve, RemovalDetermined, CompactionKeepsCurve, CompactionDetermined, EditedCurvePasses, JoinedCurvePasses, JoinedCurveIsHermite, RecordsGoRound, FaultIsLeftmost, PlacesToldWithFaults, ReadingIsExact, JobsReadBack, BurstsReadAsJoined, BurstsAreKept, ProgramWritesItsText, ClearMeansClear, WorkedCasesHold}
+use Rattle.promises.specs.Promises.{CheckGivesLowestRow, RefusalsAnswerFirst, ResultsHandedOver, CarryingPointsCarry, SpansListedExactly, InsertedEntryByEntry, InsertedThenRemoved, CompactionTakesWhatItCounts, JoinedCurveMeetsPoints, MeetingPointsDropOut, ExportsDetermined, EveryParameterHasItsSpan, ComputedPointNearExact, CutsReported, CrossingsReported, InsertionKeepsCurve, RemovalKeepsCurve, RemovalDetermined, CompactionKeepsCurve, CompactionDetermined, EditedCurvePasses, JoinedCurvePasses, JoinedCurveIsHermite, RecordsGoRound, FaultIsLeftmost, PlacesToldWithFaults, ReadingIsExact, JobsReadBack, BurstsReadAsJoined, BurstsAreKept, ProgramWritesItsText, ClearMeansClear, WorkedCasesHold}
 
 pub check-gives-lowest-row : CheckGivesLowestRow
 check-gives-lowest-row = check-answers
@@ -66,8 +67,11 @@ every-parameter-has-its-span m ts xs ys p q passes inside =
 pub computed-point-near-exact : ComputedPointNearExact
 computed-point-near-exact = point-near-exact
 
+pub cuts-reported : CutsReported
+cuts-reported = every-cut-reported
+
 pub crossings-reported : CrossingsReported
-crossings-reported = every-crossing-reported
+crossings-reported = (no-width-is-the-point, every-crossing-reported)
 
 pub insertion-keeps-curve : InsertionKeepsCurve
 insertion-keeps-curve = insert-keeps-curve

@@ -36,7 +36,7 @@ use Rattle.fault.specs.Kinds.{loneRecords}
 use Rattle.job.specs.JobFormat.{jobs}
 use Rattle.door_outcomes.specs.Exports as Door
 use Rattle.point_at_exact.specs.PointNear.{PointNearExact}
-use Rattle.spans_met_exact.specs.Crossing.{EveryCrossingReported}
+use Rattle.spans_met_exact.specs.Crossing.{EveryCutReported, NoWidthIsThePoint, EveryCrossingReported}
 use Rattle.remove_knot.specs.declared.RemoveAnswer.{RemoveAnswer}
 use Rattle.remove_knot.specs.Outcome.{RemovalOutcome}
 use Rattle.compact.specs.declared.CompactAnswer.{CompactAnswer}
@@ -83,13 +83,18 @@ EveryParameterHasItsSpan =
 abbrev pub ComputedPointNearExact : Type 0
 ComputedPointNearExact = PointNearExact
 
--- "Spans to check": where the exact point at any fraction of the domain lies in or on an accepted clamp, a span that holds this
--- parameter is on the list
-abbrev pub CrossingsReported : Type 0
-CrossingsReported = EveryCrossingReported
+-- "Spans to check": where some point of an accepted clamp, its sides included, is at most the cutter's radius away from the exact point at any fraction of the
+-- domain, a span that holds this parameter is on the list
+abbrev pub CutsReported : Type 0
+CutsReported = EveryCutReported
 
--- "Spans to check": a span is listed exactly when it is one of m to n, not empty, and some whole point lies in its box and in the clamp; the list
--- rises, its knots are those of each very span, and the non-empty spans are one fewer than the different knots of the domain
+-- "Spans to check": a cutter of no width reaches what the exact point itself meets, and with radius 0 the spans whose boxes meet the clamp as it is hold every
+-- parameter at which the exact point lies in or on it
+abbrev pub CrossingsReported : Type 0
+CrossingsReported = NoWidthIsThePoint × EveryCrossingReported
+
+-- "Spans to check": a span is listed exactly when it is one of m to n, not empty, and some whole point of its box is at most the radius away, on either axis,
+-- from some whole point of the clamp; the list rises, its knots are those of each very span, and the non-empty spans are one fewer than the different knots of the domain
 abbrev pub SpansListedExactly : Type 0
 SpansListedExactly =
     (ListedExactly × ListRises × KnotsOfEachSpan × SpanCountExactly) × SuccessListsSpans × AcceptedListIsExact × RefusalListsNothing
@@ -157,7 +162,7 @@ abbrev pub RecordsGoRound : Type 0
 RecordsGoRound = Trip.WrittenReadsBack × Trip.ReadWritesBack × Trip.OneRecordForEachCurve × Trip.RecordsShort
 
 -- "Where bytes break": bytes are a lone record, or a job, or have a leftmost fault, never both and never two; 21 stands behind every whole record and
--- every job with 64 clamps; and of bytes longer than the longest job the first 11,478 tell the fault
+-- every job with 64 clamps; and of bytes longer than the longest job the first 11,483 tell the fault
 abbrev pub FaultIsLeftmost : Type 0
 FaultIsLeftmost = FaultsTold loneRecords × FaultsTold jobs × JobFaultKept
 
@@ -165,7 +170,7 @@ FaultIsLeftmost = FaultsTold loneRecords × FaultsTold jobs × JobFaultKept
 abbrev pub ReadingIsExact : Type 0
 ReadingIsExact = Trip.FaultsExactly × Trip.ReadingDetermined × Trip.JobFaultsExactly × Trip.JobReadingDetermined
 
--- "The record on disk": reading the job of some lists reads these lists, and a job has at most 11,477 bytes
+-- "The record on disk": reading the job of some lists, radius and clamps reads these, and a job has at most 11,482 bytes
 abbrev pub JobsReadBack : Type 0
 JobsReadBack = Trip.JobReadsBack × Trip.JobsShort
 
@@ -184,7 +189,7 @@ BurstsAreKept = BurstIsKept × ShortListKept × EmptyBurstChangesNothing
 abbrev pub ProgramWritesItsText : Type 0
 ProgramWritesItsText = PartsAreTheText × WrittenIsText × OneText × BrokenIsOneLine
 
--- "`clampcheck`": where the text says that a clamp is clear, the exact curve avoids it at every fraction of the domain; every clamp of a job that
+-- "`clampcheck`": where the text says that a clamp is clear, every point of it is further than the radius from the exact curve, at every fraction of the domain; every clamp of a job that
 -- is not refused is told of, and where no line says that it is clear the spans that may meet it are listed
 abbrev pub ClearMeansClear : Type 0
 ClearMeansClear = ClearIsClear × EveryClampTold × ElseListed

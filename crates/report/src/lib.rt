@@ -55,17 +55,7 @@ fn put_curve_part(
     if k == 0 {
         return curve_line::put_curve(degree, knots, xs, ys, text);
     }
-    clamp_lines::put_clamp(
-        degree,
-        knots,
-        xs,
-        ys,
-        radius,
-        count,
-        sides,
-        k - 1,
-        text,
-    )
+    clamp_lines::put_clamp(degree, knots, xs, ys, radius, count, sides, k - 1, text)
 }
 
 // Part k of a job that was read into the fronts of the lists.
@@ -129,6 +119,17 @@ pub fn put_part(
             points,
             radius,
             clamps,
-        } => put_job(degree, points, radius, clamps, knots, xs, ys, sides, k, text),
+        } => put_job(
+            degree,
+            points,
+            radius,
+            clamps,
+            knots,
+            xs,
+            ys,
+            sides,
+            k,
+            text,
+        ),
     }
 }

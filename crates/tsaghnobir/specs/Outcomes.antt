@@ -57,8 +57,13 @@ pub record JobHandsBack (bytes : List ℕ) (before : Lists) (sidesBefore : List 
   pub hands : now ≡ handedOver number c before
   pub clampsNow : sidesNow ≡ after number (allSides cs) sidesBefore
   pub places : holds
-      ≡ (placed number m (held .0), placed number (length (c .xs)) (held .1), placed number radius (held .2), placed number (length cs) (held .3),
-      placeOr verdict (held .4))
+      ≡ (
+        placed number m (held .0),
+        placed number (length (c .xs)) (held .1),
+        placed number radius (held .2),
+        placed number (length cs) (held .3),
+        placeOr verdict (held .4),
+      )
 
 -- the end of a job in bursts, by the count of bytes received and the work list; the last number is the count afterwards
 pub data FeedHandsBack (received : ℕ) (work : List ℕ) (before : Lists) (sidesBefore : List ℤ) (held : JobPlaces) :

@@ -17,7 +17,7 @@ use Rattle.carrying.specs.Carrying.{partOf}
 use Rattle.boxes.specs.declared.Rectangle.{Rectangle}
 use Rattle.span_walk.specs.SpanLists.{SpanLists, spanLists}
 use Rattle.spans_met.specs.Answer.{listAnswer, listed}
-use Rattle.spans_met.specs.declared.SpansAnswer.the-variants.{Listed}
+use Rattle.spans_met.specs.declared.SpansAnswer.the-variants.{Listed, Refused as SpansRefused}
 use Rattle.lent.specs.Lent.{after}
 use Rattle.format.specs.Format.{form1, recordBytes}
 use Rattle.record.specs.Writing.{writeNumber, writeAnswer}
@@ -55,8 +55,10 @@ pub data Case : Type 0 where
   -- the carrying coordinates at a parameter on an axis; or there are none
   carried : ℕ → Lists → ℕ → Axis → List ℤ → Case
   carriedNot : ℕ → Lists → ℕ → Axis → ℕ → Case
-  -- so many spans may meet a clamp, and the lists of their knots, where each lent list was zeros in as many places as there are spans
-  spansListed : ℕ → Lists → Rectangle → ℕ → SpanLists → Case
+  -- on so many spans a cutter of some radius may meet a clamp, and the lists of their knots, where each lent list was zeros in as many places as there
+  -- are spans; or that is refused
+  spansListed : ℕ → Lists → Rectangle → ℕ → ℕ → SpanLists → Case
+  spansNot : ℕ → Lists → Rectangle → ℕ → ℕ → Case
   -- the record of a curve
   recorded : ℕ → Lists → List ℕ → Case
   -- a curve with so many knots compacted away is another curve
@@ -90,8 +92,10 @@ Holds (carried m c u axis part) =
     (parameterNumber m (c .knots) (c .xs) (c .ys) (argument u) ≡ 0) × (partOf m (c .knots) (c .xs) (c .ys) (argument u) axis ≡ part)
 Holds (carriedNot m c u axis n) =
     (parameterNumber m (c .knots) (c .xs) (c .ys) (argument u) ≡ n) × (partOf m (c .knots) (c .xs) (c .ys) (argument u) axis ≡ [])
-Holds (spansListed m c clamp count s) =
-    (listAnswer m c clamp (placesOfSpans s) ≡ Listed count) × (listed m c clamp (placesOfSpans s) ≡ s)
+Holds (spansListed m c clamp radius count s) =
+    (listAnswer m c clamp radius (placesOfSpans s) ≡ Listed count) × (listed m c clamp radius (placesOfSpans s) ≡ s)
+Holds (spansNot m c clamp radius n) =
+    (listAnswer m c clamp radius (spanLists [] []) ≡ SpansRefused n) × (listed m c clamp radius (spanLists [] []) ≡ spanLists [] [])
 Holds (recorded m c bytes) =
     let places : List ℕ = replicate (length bytes) 0 in
     (writeAnswer m c places ≡ Written (length bytes)) × (after (writeNumber m c places) (recordBytes form1 m c) places ≡ bytes)

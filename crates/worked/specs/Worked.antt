@@ -9,7 +9,7 @@ use Rattle.point_at.specs.declared.PointAnswer.the-variants.{Refused}
 use Rattle.carrying.specs.declared.Axis.the-variants.{X, Y}
 use Rattle.boxes.specs.declared.Rectangle.{Rectangle}
 use Rattle.span_walk.specs.SpanLists.{spanLists}
-use Rattle.worked.specs.Case.{Case, pointAt, carried, carriedNot, spansListed, recorded, compacted, inserted, insertedNot, removed, removedNot, joined, joinedNot, whole, at}
+use Rattle.worked.specs.Case.{Case, pointAt, carried, carriedNot, spansListed, spansNot, recorded, compacted, inserted, insertedNot, removed, removedNot, joined, joinedNot, whole, at}
 
 -- a curve whose coordinates are not below zero
 abbrev pub curve : List ℕ → List ℕ → List ℕ → Lists
@@ -113,9 +113,15 @@ cases =
     ∷ carried 2 curveB 4 Y (whole (8 ∷ 8 ∷ 0 ∷ []))
     ∷ carriedNot 2 curveB 5 Y 8
     -- B with 2 inserted has the spans 0..2, box 0..6 by 0..8, and 2..4, box 6..12 by 0..8: a clamp in both, one above both, one at a corner
-    ∷ spansListed 2 curveB-doubled (clamp 5 7 3 4) 2 (spanLists (0 ∷ 2 ∷ []) (2 ∷ 4 ∷ []))
-    ∷ spansListed 2 curveB-doubled (clamp 0 12 9 10) 0 (spanLists (0 ∷ 0 ∷ []) (0 ∷ 0 ∷ []))
-    ∷ spansListed 2 curveB-doubled (clamp 12 20 8 9) 1 (spanLists (2 ∷ 0 ∷ []) (4 ∷ 0 ∷ []))
+    ∷ spansListed 2 curveB-doubled (clamp 5 7 3 4) 0 2 (spanLists (0 ∷ 2 ∷ []) (2 ∷ 4 ∷ []))
+    ∷ spansListed 2 curveB-doubled (clamp 0 12 9 10) 0 0 (spanLists (0 ∷ 0 ∷ []) (0 ∷ 0 ∷ []))
+    ∷ spansListed 2 curveB-doubled (clamp 12 20 8 9) 0 1 (spanLists (2 ∷ 0 ∷ []) (4 ∷ 0 ∷ []))
+    -- a clamp whose corner (15,4) is 5 steps from the curve's end (12,0): a cutter of radius 5 may meet it, one of radius 2 passes it
+    ∷ spansListed 2 curveB-doubled (clamp 15 20 4 9) 5 1 (spanLists (2 ∷ 0 ∷ []) (4 ∷ 0 ∷ []))
+    ∷ spansListed 2 curveB-doubled (clamp 15 20 4 9) 2 0 (spanLists (0 ∷ 0 ∷ []) (0 ∷ 0 ∷ []))
+    -- the same with its sides in x crossed, and no place: radius 4,097 is 22, and 4,096 leaves 14
+    ∷ spansNot 2 curveB-doubled (clamp 20 15 4 9) 4097 22
+    ∷ spansNot 2 curveB-doubled (clamp 20 15 4 9) 4096 14
     -- the record of A: degree, knots, x and y, each behind its tag and its length
     ∷ recorded 3 curveA
     (1 ∷ 1 ∷ 0 ∷ 3
