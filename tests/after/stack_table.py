@@ -13,7 +13,7 @@ PAGE = TOP / "docs" / "BENCHMARKS.md"
 HEADER = TOP / "include" / "tsaghnobir.h"
 # what the header tells of the stack: these calls hold a curve
 HOLDERS = {"tsb_remove", "tsb_compact", "tsb_read_record", "tsb_read_job", "tsb_feed_end"}
-MOST, MOST_OF_HOLDERS = 256, 11 * 1024
+MOST, MOST_OF_HOLDERS = 272, 11 * 1024
 
 
 def written():
