@@ -1,5 +1,5 @@
 -- Laws of the order of an ordered field: a ≤ b is `AtMost F a b` (b - a passes the test), a < b is `Below F a b` (a - b
--- fails it), "positive" is `Below F zero a`. The order's own laws first, then squares, quotients and means.
+-- fails it), "positive" is `Below F zero a`. The order's own laws first, then squares, quotients and means, and numbers near others.
 use mathlib.Core.Path.{_≡_, refl, sym, _∙_, ap, subst}
 use mathlib.Core.Logic.{_⊎_, inl, inr}
 use mathlib.Core.Bool.{Bool, true, false, true≢false}
@@ -10,7 +10,7 @@ use Rattle.algebra.specs.Ring.{Ring, fieldRing}
 use Rattle.algebra.proofs.RingLaws as Law
 use Rattle.algebra.proofs.Expressions.{var, lit, _⊕_, _⊗_, _⊖_, minus}
 use Rattle.algebra.proofs.Solver.{ring, linear-combination, fact}
-use Rattle.algebra.proofs.FieldLaws.{nonneg-zero, by-zero}
+use Rattle.algebra.proofs.FieldLaws.{nonneg-zero, by-zero, mul-cancel-right}
 
 module _ (F : OrderedField) where
   infixl 6 _+_ _-_
@@ -141,3 +141,46 @@ module _ (F : OrderedField) where
       (linear-combination R (v ∷ x ∷ y ∷ a ∷ b ∷ []) (var 3 ⊗ (var 0 ⊖ var 1) ⊕ var 4 ⊗ (var 0 ⊖ var 2)) (var 0 ⊖ (var 3 ⊗ var 1 ⊕ var 4 ⊗ var 2))
       (fact (var 0) (var 3 ⊕ var 4) (lit 1) ∷ []) (e, tt) refl)
       (F .laws .nonneg-add (a * (v - x)) (b * (v - y)) (F .laws .nonneg-mul a (v - x) p h) (F .laws .nonneg-mul b (v - y) q k))
+
+  -- only zero has the square zero
+  square-zero : (a : A) → a * a ≡ 𝟎 → a ≡ 𝟎
+  square-zero a =
+      by-zero F (λ x. x * x ≡ 𝟎 → x ≡ 𝟎) a (λ e. refl) (λ apart e. mul-cancel-right F a 𝟎 a apart (e ∙ sym (Law.zero-mul R a)))
+
+  module _ (a e r : A) (more : F .nonneg e ≡ true) (up : F .nonneg r ≡ true) (near : a * a + e ≤ r * r) where
+    -- where a is at least r, (a - r)² is at most zero: -(a - r)² = (r² - a² - e) + e + 2r(a - r)
+    square-under : r ≤ a → F .nonneg (neg ((a - r) * (a - r))) ≡ true
+    square-under h =
+        sign-equal (r * r - (a * a + e) + (e + (a - r) * (r + r))) (neg ((a - r) * (a - r))) true
+        (ring R (a ∷ e ∷ r ∷ []) (var 2 ⊗ var 2 ⊖ (var 0 ⊗ var 0 ⊕ var 1) ⊕ (var 1 ⊕ (var 0 ⊖ var 2) ⊗ (var 2 ⊕ var 2))) (minus ((var 0 ⊖ var 2) ⊗ (var 0 ⊖ var 2))) refl)
+        (F .laws .nonneg-add (r * r - (a * a + e)) (e + (a - r) * (r + r)) near
+        (F .laws .nonneg-add e ((a - r) * (r + r)) more (F .laws .nonneg-mul (a - r) (r + r) h (F .laws .nonneg-add r r up up))))
+
+    -- so a² + e ≤ r² gives a ≤ r, where neither e nor r is below zero
+    root-at-most : a ≤ r
+    root-at-most = by (order-cases a r)
+      where
+        by : (a ≤ r) ⊎ (r < a) → a ≤ r
+        by (inl h) = h
+        by (inr h) =
+            atMost-of-equal a r (Law.equal-of-sub-zero R a r (square-zero (a - r)
+            (F .laws .nonneg-both ((a - r) * (a - r)) (square-nonneg (a - r)) (square-under (atMost-of-below r a h)))))
+
+  -- v moved outward by r
+  abbrev pub moved : Side → A → A → A
+  moved low v r = v - r
+  moved high v r = v + r
+
+  -- a bound of u, moved outward by r, bounds each x with (x - u)² + e ≤ r²
+  pub moved-bounds : (side : Side) (v x u e r : A) → F .nonneg e ≡ true → F .nonneg r ≡ true → (x - u) * (x - u) + e ≤ r * r → Bounds F side v u → Bounds F side (moved side v r) x
+  moved-bounds low v x u e r more up near h =
+      sign-equal (r - (u - x) + (u - v)) (x - (v - r)) true (ring R (v ∷ x ∷ u ∷ r ∷ []) (var 3 ⊖ (var 2 ⊖ var 1) ⊕ (var 2 ⊖ var 0)) (var 1 ⊖ (var 0 ⊖ var 3)) refl)
+      (F .laws .nonneg-add (r - (u - x)) (u - v)
+      (root-at-most (u - x) e r more up
+      (sign-equal (r * r - ((x - u) * (x - u) + e)) (r * r - ((u - x) * (u - x) + e)) true
+      (ring R (x ∷ u ∷ e ∷ r ∷ []) (var 3 ⊗ var 3 ⊖ ((var 0 ⊖ var 1) ⊗ (var 0 ⊖ var 1) ⊕ var 2)) (var 3 ⊗ var 3 ⊖ ((var 1 ⊖ var 0) ⊗ (var 1 ⊖ var 0) ⊕ var 2)) refl)
+      near))
+      h)
+  moved-bounds high v x u e r more up near h =
+      sign-equal (r - (x - u) + (v - u)) (v + r - x) true (ring R (v ∷ x ∷ u ∷ r ∷ []) (var 3 ⊖ (var 1 ⊖ var 2) ⊕ (var 0 ⊖ var 2)) (var 0 ⊕ var 3 ⊖ var 1) refl)
+      (F .laws .nonneg-add (r - (x - u)) (v - u) (root-at-most (x - u) e r more up near) h)

@@ -1,4 +1,4 @@
--- A whole number lies between two sides moved outward by a radius exactly where it is at most the radius away from some whole number between them.
+-- A whole point lies in a widened clamp exactly where on either axis it is at most the radius away from some whole number between the sides.
 use mathlib.Core.Bool.{Bool, true, false}
 use mathlib.Core.Path.{_≡_, refl}
 use Prim.Native.Nat.{ℕ, _≤_}
@@ -9,6 +9,8 @@ use Rattle.signed.proofs.OrderLaws.{leZ-true, leZ-refl, leZ-total, le-leZ}
 use Rattle.signed.proofs.PartLaws.{neg-up, neg-down, sum-parts, difference-parts}
 use Rattle.signed.proofs.BoundLaws.{size-of-bounds, low-of-size, high-of-size}
 use Rattle.boxes.specs.Sentences.{Near, WidenedExactly}
+use Rattle.boxes.specs.Widening.{widened}
+use Rattle.boxes.specs.declared.Rectangle.{Rectangle}
 use Rattle.boxes.proofs.SentenceLaws.{order, test}
 
 module _ (radius : ℕ) (z : ℤ) where
@@ -29,10 +31,10 @@ module _ (radius : ℕ) (z : ℤ) where
     under-by : leZ z (other +ℤ pos radius) ≡ true
     under-by = le-leZ z (other +ℤ pos radius) (omega (arith, difference-parts z other, leZ-true (z -ℤ other) (pos radius) (high-of-size radius (z -ℤ other) close), sum-parts other (pos radius)))
 
-  module _ (low high : ℤ) (sides : leZ low high ≡ true) where
+  module _ (low high : ℤ) where
     -- the nearest number of low..high: a side where z lies beyond it, else z itself
-    nearest : leZ (low -ℤ pos radius) z ≡ true → leZ z (high +ℤ pos radius) ≡ true → Near radius low high z
-    nearest above under = by (leZ z low) (leZ high z) refl refl
+    nearest : leZ low high ≡ true → leZ (low -ℤ pos radius) z ≡ true → leZ z (high +ℤ pos radius) ≡ true → Near radius low high z
+    nearest sides above under = by (leZ z low) (leZ high z) refl refl
       where
         by : (below beyond : Bool) → leZ z low ≡ below → leZ high z ≡ beyond → Near radius low high z
         by true beyond e f =
@@ -53,8 +55,28 @@ module _ (radius : ℕ) (z : ℤ) where
       order (le-leZ z (high +ℤ pos radius) (omega (arith, leZ-true (near .other) high (test (near .to)), leZ-true z (near .other +ℤ pos radius) (under-by (near .other) (near .apart)), sum-parts high (pos radius), sum-parts (near .other) (pos radius)))),
     )
 
+moved-order : (radius : ℕ) (low high : ℤ) → leZ low high ≡ true → (low -ℤ pos radius) ≤ℤ (high +ℤ pos radius)
+moved-order radius low high sides =
+    order (le-leZ (low -ℤ pos radius) (high +ℤ pos radius) (omega (arith, leZ-true low high sides, difference-parts low (pos radius), sum-parts high (pos radius))))
+
 pub widened-exactly : WidenedExactly
-widened-exactly radius low high z sides = (
-  λ between. nearest radius z low high (test sides) (test (between .0)) (test (between .1)),
-  moved-out radius z low high (test sides),
+unfolding widened
+widened-exactly radius clamp x y onX onY = (
+  λ inside. (
+    nearest radius x (clamp .«low_x») (clamp .«high_x») (test onX) (test (inside .low-x)) (test (inside .high-x)),
+    nearest radius y (clamp .«low_y») (clamp .«high_y») (test onY) (test (inside .low-y)) (test (inside .high-y)),
+  ),
+  λ near.
+      let across = moved-out radius x (clamp .«low_x») (clamp .«high_x») (near .0) in
+      let upward = moved-out radius y (clamp .«low_y») (clamp .«high_y») (near .1) in
+      record { low-x = across .0; high-x = across .1; low-y = upward .0; high-y = upward .1 },
+)
+
+-- a widened clamp's sides are in order
+pub widened-order : (radius : ℕ) (clamp : Rectangle) → clamp .«low_x» ≤ℤ clamp .«high_x» → clamp .«low_y» ≤ℤ clamp .«high_y»
+    → (widened radius clamp .«low_x» ≤ℤ widened radius clamp .«high_x») × (widened radius clamp .«low_y» ≤ℤ widened radius clamp .«high_y»)
+unfolding widened
+widened-order radius clamp onX onY = (
+  moved-order radius (clamp .«low_x») (clamp .«high_x») (test onX),
+  moved-order radius (clamp .«low_y») (clamp .«high_y») (test onY),
 )

@@ -1,13 +1,15 @@
--- When a closed box meets a closed range of one axis, and what a range holds that is widened, in sentences (heading "Spans to check").
+-- When a closed box meets a closed range of one axis, and which points a widened clamp holds, in sentences (heading "Spans to check").
 use mathlib.Core.Bool.{true}
 use mathlib.Core.List.{List}
 use mathlib.Core.Logic.{_↔_}
 use mathlib.Core.Path.{_≡_}
 use Prim.Native.Nat.{ℕ, _<_, _≤_}
-use lib.IntN.{ℤ, pos, natAbs, _+ℤ_, _-ℤ_}
+use lib.IntN.{ℤ, pos, natAbs, _-ℤ_}
 use lib.ListN.{length, getD}
 use lib.Signed.{_≤ℤ_}
 use Rattle.boxes.specs.Meeting.{meetsOnAxis}
+use Rattle.boxes.specs.Widening.{widened}
+use Rattle.boxes.specs.declared.Rectangle.{Rectangle}
 
 -- z lies from the coordinate at `below` to the one at `above`, either included
 pub record Between (zs : List ℤ) (z : ℤ) : Type 0 where
@@ -29,6 +31,13 @@ pub record Shared (low high : ℤ) (zs : List ℤ) : Type 0 where
 abbrev pub MeetsExactly : Type 0
 MeetsExactly = (low high : ℤ) (zs : List ℤ) → low ≤ℤ high → (meetsOnAxis low high zs ≡ true) ↔ Shared low high zs
 
+-- the whole point (x, y) lies in a rectangle, its sides included
+pub record Inside (rectangle : Rectangle) (x y : ℤ) : Type 0 where
+  pub low-x : rectangle .«low_x» ≤ℤ x
+  pub high-x : x ≤ℤ rectangle .«high_x»
+  pub low-y : rectangle .«low_y» ≤ℤ y
+  pub high-y : y ≤ℤ rectangle .«high_y»
+
 -- z is at most the radius away from some whole number of low..high
 pub record Near (radius : ℕ) (low high z : ℤ) : Type 0 where
   pub other : ℤ
@@ -36,7 +45,8 @@ pub record Near (radius : ℕ) (low high z : ℤ) : Type 0 where
   pub to : other ≤ℤ high
   pub apart : natAbs (z -ℤ other) ≤ radius
 
--- z lies between the two sides moved outward by the radius exactly where it is
+-- a whole point lies in the widened clamp exactly where on either axis it is at most the radius away from some whole number between the clamp's sides
 abbrev pub WidenedExactly : Type 0
 WidenedExactly =
-    (radius : ℕ) (low high z : ℤ) → low ≤ℤ high → (((low -ℤ pos radius) ≤ℤ z) × (z ≤ℤ (high +ℤ pos radius))) ↔ Near radius low high z
+    (radius : ℕ) (clamp : Rectangle) (x y : ℤ) → clamp .«low_x» ≤ℤ clamp .«high_x» → clamp .«low_y» ≤ℤ clamp .«high_y»
+    → Inside (widened radius clamp) x y ↔ (Near radius (clamp .«low_x») (clamp .«high_x») x × Near radius (clamp .«low_y») (clamp .«high_y») y)

@@ -68,10 +68,7 @@ module _ (clamp : Rectangle) (m : ℕ) (ts : List ℕ) (xs ys : List ℤ) (alike
         y = upward .number;
         box-x = box-of-shared m i xs from to (clamp .«low_x») (clamp .«high_x») across;
         box-y = box-of-shared m i ys from (omega arith) (clamp .«low_y») (clamp .«high_y») upward;
-        low-x = across .from;
-        high-x = across .to;
-        low-y = upward .from;
-        high-y = upward .to;
+        inside = record { low-x = across .from; high-x = across .to; low-y = upward .from; high-y = upward .to };
       }
 
   meets-of-point : clamp .«low_x» ≤ℤ clamp .«high_x» → clamp .«low_y» ≤ℤ clamp .«high_y» → SharedPoint clamp m i xs ys → boxMeets clamp m xs ys i ≡ true
@@ -79,10 +76,10 @@ module _ (clamp : Rectangle) (m : ℕ) (ts : List ℕ) (xs ys : List ℤ) (alike
   meets-of-point sidesX sidesY p =
       let across : meetsOnAxis (clamp .«low_x») (clamp .«high_x») (carryingOf m i xs) ≡ true =
       meets-exactly (clamp .«low_x») (clamp .«high_x») (carryingOf m i xs) sidesX .1
-      (shared-of-box m i xs from to (clamp .«low_x») (clamp .«high_x») (p .x) (p .box-x) (p .low-x) (p .high-x)) in
+      (shared-of-box m i xs from to (clamp .«low_x») (clamp .«high_x») (p .x) (p .box-x) (p .inside .low-x) (p .inside .high-x)) in
       let upward : meetsOnAxis (clamp .«low_y») (clamp .«high_y») (carryingOf m i ys) ≡ true =
       meets-exactly (clamp .«low_y») (clamp .«high_y») (carryingOf m i ys) sidesY .1
-      (shared-of-box m i ys from (omega arith) (clamp .«low_y») (clamp .«high_y») (p .y) (p .box-y) (p .low-y) (p .high-y)) in
+      (shared-of-box m i ys from (omega arith) (clamp .«low_y») (clamp .«high_y») (p .y) (p .box-y) (p .inside .low-y) (p .inside .high-y)) in
       rw (across, upward)
 
 module _ (clamp : Rectangle) (m : ℕ) (ts : List ℕ) (xs ys : List ℤ) (alike : length ys ≡ length xs) (sidesX : clamp .«low_x» ≤ℤ clamp .«high_x») (sidesY : clamp .«low_y» ≤ℤ clamp .«high_y») (i : ℕ) where

@@ -11,6 +11,7 @@ use lib.Signed.{_≤ℤ_}
 use Rattle.lent.specs.Sentences.{ResultThenRest}
 use Rattle.curve.specs.Lists.{NeverFall}
 use Rattle.grid.specs.Rows.{occurrences}
+use Rattle.boxes.specs.Sentences.{Inside}
 use Rattle.boxes.specs.declared.Rectangle.{Rectangle}
 use Rattle.span_walk.specs.SpansMet.{spanCount, spansMet}
 use Rattle.span_walk.specs.SpanLists.{SpanLists, knotsMet, spansHandedOver}
@@ -30,10 +31,7 @@ pub record SharedPoint (clamp : Rectangle) (m i : ℕ) (xs ys : List ℤ) : Type
   pub y : ℤ
   pub box-x : InBox m i xs x
   pub box-y : InBox m i ys y
-  pub low-x : clamp .«low_x» ≤ℤ x
-  pub high-x : x ≤ℤ clamp .«high_x»
-  pub low-y : clamp .«low_y» ≤ℤ y
-  pub high-y : y ≤ℤ clamp .«high_y»
+  pub inside : Inside clamp x y
 
 -- i is a span, from m to n; it is not empty; and its box shares a point with the rectangle
 pub record MayMeet (clamp : Rectangle) (m : ℕ) (ts : List ℕ) (xs ys : List ℤ) (i : ℕ) : Type 0 where

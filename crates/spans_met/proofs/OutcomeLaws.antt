@@ -9,7 +9,7 @@ use native.Mathlib.Decide.{ℕ-discrete}
 use native.Mathlib.Omega.{arith}
 use borrow.Author.Tests.{leb-true}
 use lib.Dec.{leb, eqb·suc-zero}
-use lib.IntN.{ℤ, pos, _+ℤ_, _-ℤ_}
+use lib.IntN.{ℤ}
 use lib.ListN.{length}
 use lib.Signed.{leZ, _≤ℤ_}
 use Rattle.refusal.proofs.JudgingLaws.{unless-accepted, both}
@@ -20,10 +20,8 @@ use Rattle.grid.proofs.SizeLaws.{sizes-of-passes}
 use Rattle.grid.proofs.ThenLaws.{checkedThen-refused, checkedThen-passed}
 use Rattle.boxes.specs.declared.Rectangle.{Rectangle}
 use Rattle.boxes.specs.Widening.{widened}
-use Rattle.boxes.proofs.SentenceLaws.{order, test}
-use Rattle.boxes.proofs.NearLaws.{widened-exactly}
-use Rattle.signed.proofs.OrderLaws.{leZ-true, le-leZ}
-use Rattle.signed.proofs.PartLaws.{sum-parts, difference-parts}
+use Rattle.boxes.proofs.SentenceLaws.{order}
+use Rattle.boxes.proofs.NearLaws.{widened-exactly, widened-order}
 use Rattle.span_walk.specs.SpansMet.{nonEmpty, boxMeets, toCheck, spansOf, spanCount, spansMet}
 use Rattle.span_walk.specs.SpanLists.{SpanLists, knotsMet}
 use Rattle.span_walk.specs.Sentences.{MayMeet}
@@ -82,48 +80,31 @@ sides-order clamp e =
     let each = both (axisOk (clamp .«low_x») (clamp .«high_x»)) (axisOk (clamp .«low_y») (clamp .«high_y»)) e in
     (axis-order _ _ (each .0), axis-order _ _ (each .1))
 
--- a widened range of an axis is in order
-moved-order : (radius : ℕ) (low high : ℤ) → low ≤ℤ high → (low -ℤ pos radius) ≤ℤ (high +ℤ pos radius)
-moved-order radius low high sides =
-    order (le-leZ (low -ℤ pos radius) (high +ℤ pos radius) (omega (arith, leZ-true low high (test sides), difference-parts low (pos radius), sum-parts high (pos radius))))
-
 -- a span whose box shares a point with the widened clamp is one that may be reached, and back
 module _ (clamp : Rectangle) (radius m : ℕ) (ts : List ℕ) (xs ys : List ℤ) (i : ℕ) (sides : (clamp .«low_x» ≤ℤ clamp .«high_x») × (clamp .«low_y» ≤ℤ clamp .«high_y»)) where
   reaches : MayMeet (widened radius clamp) m ts xs ys i → MayReach clamp radius m ts xs ys i
-  unfolding widened
   reaches meets =
       let at = meets .shares in
-      record {
-        from = meets .from;
-        to = meets .to;
-        wide = meets .wide;
-        x = at .x;
-        y = at .y;
-        box-x = at .box-x;
-        box-y = at .box-y;
-        near-x = widened-exactly radius _ _ (at .x) (sides .0) .0 (at .low-x, at .high-x);
-        near-y = widened-exactly radius _ _ (at .y) (sides .1) .0 (at .low-y, at .high-y);
-      }
+      let near = widened-exactly radius clamp (at .x) (at .y) (sides .0) (sides .1) .0 (at .inside) in
+      record { from = meets .from; to = meets .to; wide = meets .wide; x = at .x; y = at .y; box-x = at .box-x; box-y = at .box-y; near-x = near .0; near-y = near .1 }
 
   reached : MayReach clamp radius m ts xs ys i → MayMeet (widened radius clamp) m ts xs ys i
-  unfolding widened
   reached near =
-      let x = widened-exactly radius _ _ (near .x) (sides .0) .1 (near .near-x) in
-      let y = widened-exactly radius _ _ (near .y) (sides .1) .1 (near .near-y) in
+      let inside = widened-exactly radius clamp (near .x) (near .y) (sides .0) (sides .1) .1 (near .near-x, near .near-y) in
       record {
         from = near .from;
         to = near .to;
         wide = near .wide;
-        shares = record { x = near .x; y = near .y; box-x = near .box-x; box-y = near .box-y; low-x = x .0; high-x = x .1; low-y = y .0; high-y = y .1 };
+        shares = record { x = near .x; y = near .y; box-x = near .box-x; box-y = near .box-y; inside = inside };
       }
 
 pub accepted-list-is-exact : AcceptedListIsExact
-unfolding widened
 accepted-list-is-exact m c clamp radius before e i =
     let a = accepted-says m c clamp radius before e in
     let sides = sides-order clamp (a .sides) in
     let as-many = sizes-of-passes m (c .knots) (c .xs) (c .ys) (a .passed) .as-many in
-    Iff·trans (listed-exactly (widened radius clamp) m (c .knots) (c .xs) (c .ys) as-many (moved-order radius _ _ (sides .0)) (moved-order radius _ _ (sides .1)) i)
+    let wide = widened-order radius clamp (sides .0) (sides .1) in
+    Iff·trans (listed-exactly (widened radius clamp) m (c .knots) (c .xs) (c .ys) as-many (wide .0) (wide .1) i)
     (reaches clamp radius m (c .knots) (c .xs) (c .ys) i sides, reached clamp radius m (c .knots) (c .xs) (c .ys) i sides)
 
 pub refusal-lists-nothing : RefusalListsNothing

@@ -1,21 +1,19 @@
 -- What the cutter reaches lies in the widened clamp: on each axis the gap is at most the whole distance, so at most the radius.
-use mathlib.Core.Path.{_≡_, refl, sym, _∙_, ap₂, subst}
+use mathlib.Core.Path.{_≡_, refl, _∙_, ap₂, subst}
 use mathlib.Core.Bool.{true}
 use mathlib.Core.List.{List, [], _∷_}
-use mathlib.Core.Logic.{_⊎_, inl, inr, _↔_}
+use mathlib.Core.Logic.{_↔_}
 use Prim.Native.Nat as Nat
 use Prim.Native.Nat.{ℕ}
 use lib.IntN.{ℤ, pos, _+ℤ_, _-ℤ_, +ℤ-idr}
 use Rattle.boxes.specs.Widening.{widened}
 use Rattle.boxes.specs.declared.Rectangle.{Rectangle}
 use Rattle.algebra.specs.Operations.{sub}
-use Rattle.algebra.specs.OrderedField.{OrderedField, AtMost, Below, Side, low, high, Bounds}
-use Rattle.algebra.specs.Ring.{Ring, fieldRing}
-use Rattle.algebra.proofs.Expressions.{var, lit, _⊕_, _⊗_, _⊖_, minus}
+use Rattle.algebra.specs.OrderedField.{AtMost, Side, low, high, Bounds}
+use Rattle.algebra.specs.Ring.{fieldRing}
+use Rattle.algebra.proofs.Expressions.{var, lit, _⊕_, _⊗_, _⊖_}
 use Rattle.algebra.proofs.Solver.{ring}
-use Rattle.algebra.proofs.RingLaws as Law
-use Rattle.algebra.proofs.FieldLaws.{by-zero, mul-cancel-right}
-use Rattle.algebra.proofs.OrderLaws.{sign-equal, atMost-of-equal, atMost-of-below, order-cases, square-nonneg}
+use Rattle.algebra.proofs.OrderLaws.{atMost-of-equal, square-nonneg, moved, moved-bounds}
 use Rattle.fractions.specs.Fraction.{Fraction, whole, wholeN, sum, fractionOperations}
 use Rattle.fractions.specs.Order as Order
 use Rattle.fractions.proofs.Rational.{ℚ, class, plus, times, notNegative, rational, rationalOperations}
@@ -23,76 +21,6 @@ use Rattle.fractions.proofs.ClassLaws.{class-sum, class-product, class-sub, cla
 use Rattle.fractions.proofs.WholeLaws.{whole-sum, whole-product, whole-difference}
 use Rattle.exact.specs.ExactCurve.{exactAt}
 use Rattle.spans_met_exact.specs.Crossing.{Within, squaredGap, Reached, InClamp, NoWidthIsThePoint}
-
--- ---- in any ordered field
-
-module _ (F : OrderedField) where
-  infixl 6 _+_ _-_
-  infixl 7 _*_
-  infix 5 _≤_
-  abbrev A : Type 0
-  A = F .operations .Number
-
-  abbrev R : Ring
-  R = fieldRing F
-
-  abbrev 𝟎 : A
-  𝟎 = F .operations .zero
-
-  abbrev _+_ : A → A → A
-  a + b = F .operations .add a b
-
-  abbrev _-_ : A → A → A
-  a - b = sub (F .operations) a b
-
-  abbrev _*_ : A → A → A
-  a * b = F .operations .mul a b
-
-  abbrev _≤_ : A → A → Type 0
-  a ≤ b = AtMost F a b
-
-  -- only zero has the square zero
-  square-zero : (a : A) → a * a ≡ 𝟎 → a ≡ 𝟎
-  square-zero a =
-      by-zero F (λ x. x * x ≡ 𝟎 → x ≡ 𝟎) a (λ e. refl) (λ apart e. mul-cancel-right F a 𝟎 a apart (e ∙ sym (Law.zero-mul R a)))
-
-  module _ (a e r : A) (more : F .nonneg e ≡ true) (up : F .nonneg r ≡ true) (near : a * a + e ≤ r * r) where
-    -- where a is at least r, (a - r)² is at most zero: -(a - r)² = (r² - a² - e) + e + 2r(a - r)
-    square-under : r ≤ a → F .nonneg (F .operations .neg ((a - r) * (a - r))) ≡ true
-    square-under h =
-        sign-equal F (r * r - (a * a + e) + (e + (a - r) * (r + r))) (F .operations .neg ((a - r) * (a - r))) true
-        (ring R (a ∷ e ∷ r ∷ []) (var 2 ⊗ var 2 ⊖ (var 0 ⊗ var 0 ⊕ var 1) ⊕ (var 1 ⊕ (var 0 ⊖ var 2) ⊗ (var 2 ⊕ var 2))) (minus ((var 0 ⊖ var 2) ⊗ (var 0 ⊖ var 2))) refl)
-        (F .laws .nonneg-add (r * r - (a * a + e)) (e + (a - r) * (r + r)) near
-        (F .laws .nonneg-add e ((a - r) * (r + r)) more (F .laws .nonneg-mul (a - r) (r + r) h (F .laws .nonneg-add r r up up))))
-
-    -- so a² + e ≤ r² gives a ≤ r, where neither e nor r is below zero
-    root-at-most : a ≤ r
-    root-at-most = by (order-cases F a r)
-      where
-        by : (a ≤ r) ⊎ Below F r a → a ≤ r
-        by (inl h) = h
-        by (inr h) =
-            atMost-of-equal F a r (Law.equal-of-sub-zero R a r (square-zero (a - r)
-            (F .laws .nonneg-both ((a - r) * (a - r)) (square-nonneg F (a - r)) (square-under (atMost-of-below F r a h)))))
-
-  -- v moved outward by r
-  abbrev moved : Side → A → A → A
-  moved low v r = v - r
-  moved high v r = v + r
-
-  -- a bound of u, moved outward by r, bounds each x with (x - u)² + e ≤ r²
-  moved-bounds : (side : Side) (v x u e r : A) → F .nonneg e ≡ true → F .nonneg r ≡ true → (x - u) * (x - u) + e ≤ r * r → Bounds F side v u → Bounds F side (moved side v r) x
-  moved-bounds low v x u e r more up near h =
-      sign-equal F (r - (u - x) + (u - v)) (x - (v - r)) true (ring R (v ∷ x ∷ u ∷ r ∷ []) (var 3 ⊖ (var 2 ⊖ var 1) ⊕ (var 2 ⊖ var 0)) (var 1 ⊖ (var 0 ⊖ var 3)) refl)
-      (F .laws .nonneg-add (r - (u - x)) (u - v)
-      (root-at-most (u - x) e r more up
-      (sign-equal F (r * r - ((x - u) * (x - u) + e)) (r * r - ((u - x) * (u - x) + e)) true
-      (ring R (x ∷ u ∷ e ∷ r ∷ []) (var 3 ⊗ var 3 ⊖ ((var 0 ⊖ var 1) ⊗ (var 0 ⊖ var 1) ⊕ var 2)) (var 3 ⊗ var 3 ⊖ ((var 1 ⊖ var 0) ⊗ (var 1 ⊖ var 0) ⊕ var 2)) refl)
-      near))
-      h)
-  moved-bounds high v x u e r more up near h =
-      sign-equal F (r - (x - u) + (v - u)) (v + r - x) true (ring R (v ∷ x ∷ u ∷ r ∷ []) (var 3 ⊖ (var 1 ⊖ var 2) ⊕ (var 0 ⊖ var 2)) (var 0 ⊕ var 3 ⊖ var 1) refl)
-      (F .laws .nonneg-add (r - (x - u)) (v - u) (root-at-most (x - u) e r more up near) h)
 
 -- ---- on fractions
 
