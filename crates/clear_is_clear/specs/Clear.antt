@@ -39,8 +39,8 @@ pub data Among (line : List ℕ) : List (List ℕ) → Type 0 where
 abbrev pub HasLine : List ℕ → List ℕ → Type 0
 HasLine text line = Among line (linesOf text)
 
--- at no fraction p/q of the domain, both ends included, does the cutter reach the clamp: no point of it, its sides included, is as near to the exact point as
--- the radius
+-- at no fraction p/q of the domain, both ends included, does the cutter reach the clamp: every point of it, its sides included, is further than the radius
+-- from the exact point
 abbrev pub Avoids : ℕ → Lists → ℕ → Rectangle → Type 0
 Avoids m c radius clamp =
     (p q : ℕ) → 0 < q → inDomain (c .knots) m (length (c .xs) - 1) p q ≡ true → Reached clamp radius m (c .knots) (c .xs) (c .ys) p q → ⊥

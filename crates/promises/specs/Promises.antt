@@ -94,7 +94,8 @@ abbrev pub CrossingsReported : Type 0
 CrossingsReported = NoWidthIsThePoint × EveryCrossingReported
 
 -- "Spans to check": a span is listed exactly when it is one of m to n, not empty, and some whole point of its box is at most the radius away, on either axis,
--- from some whole point of the clamp; the list rises, its knots are those of each very span, and the non-empty spans are one fewer than the different knots of the domain
+-- from some whole point of the clamp; the list rises, its knots are those of each very span, and the non-empty spans are one fewer than the different knots of
+-- the domain
 abbrev pub SpansListedExactly : Type 0
 SpansListedExactly =
     (ListedExactly × ListRises × KnotsOfEachSpan × SpanCountExactly) × SuccessListsSpans × AcceptedListIsExact × RefusalListsNothing
@@ -189,8 +190,8 @@ BurstsAreKept = BurstIsKept × ShortListKept × EmptyBurstChangesNothing
 abbrev pub ProgramWritesItsText : Type 0
 ProgramWritesItsText = PartsAreTheText × WrittenIsText × OneText × BrokenIsOneLine
 
--- "`clampcheck`": where the text says that a clamp is clear, every point of it is further than the radius from the exact curve, at every fraction of the domain; every clamp of a job that
--- is not refused is told of, and where no line says that it is clear the spans that may meet it are listed
+-- "`clampcheck`": where the text says that a clamp is clear, every point of it is further than the radius from the exact point at every fraction of the domain;
+-- every clamp of a job that is not refused is told of, and where no line says that it is clear the spans are listed on which the cutter may meet it
 abbrev pub ClearMeansClear : Type 0
 ClearMeansClear = ClearIsClear × EveryClampTold × ElseListed
 
