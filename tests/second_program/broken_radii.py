@@ -1,7 +1,7 @@
 """Jobs that break between record and clamps: at the field of the cutter's radius, or because it is missing, doubled or somewhere else. As in
 broken_cases.py a maker yields number, place and bytes, which are known without reading; the radius itself is now and then too large, and that is not told."""
 
-from .broken_cases import ended, ended_in_length, left_over, left_overs, past_the_most, some_wide_job, twice_broken, unexpected_tags, wrong_lengths
+from .broken_cases import ended, ended_in_length, left_over, past_the_most, some_wide_job, twice_broken, unexpected_tags, wrong_lengths
 from .fields import CLAMP, RADIUS, joined, place_of, radius_field
 from .record import MOST_CLAMPS
 
@@ -57,6 +57,5 @@ def broken_radii(dice):
     for ks in ([RADIUS - 1, RADIUS], [RADIUS, CLAMP]):
         yield from twice_broken(dice, some_wide_job(dice, 1), ks)
     yield from past_the_most(some_wide_job(dice, 1), [RADIUS])
-    yield from left_overs(dice, some_wide_job(dice, MOST_CLAMPS), ())
     for maker in (without_radius, with_two, moved):
         yield from maker(dice)

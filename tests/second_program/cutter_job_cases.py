@@ -1,7 +1,6 @@
 """Cases of `read_job` and of the text of `clampcheck` with a cutter that is wider than a line, and what `feed` is asked of them too."""
 
 from . import vectors
-from .broken_cases import at_the_end
 from .broken_radii import broken_radii
 from .clamp_cases import bad_rectangle
 from .curve import MOST_POINTS
@@ -9,7 +8,6 @@ from .cutter_cases import some_radius, wide_rectangle
 from .expected import EACH_REFUSAL, any_room, each_one_short, expect, expect_at, one_short, room_for, spare_room
 from .job_cases import job_of, longest_job
 from .random_curves import SPOILERS, random_curve, spoiled_curve
-from .record import MOST_CLAMPS
 from .spans import MOST_RADIUS
 
 RADII = (0, 1, 255, 256, 258, MOST_RADIUS - 1, MOST_RADIUS)
@@ -55,11 +53,8 @@ def refused_jobs(dice, make):
 
 
 def longest_jobs(dice, make, radius):
-    """11,482 bytes, one fewer and one more; with a radius that is too large, one more is told first."""
-    longest = longest_job(dice, radius)
-    yield expect(0, make(longest, LONGEST_ROOM, MOST_POINTS))
-    for number, place, data in at_the_end(longest):
-        yield expect_at(number, place, make(data, None, MOST_POINTS))
+    """11,482 bytes; with a radius that is too large, one byte more is told first."""
+    yield expect(0, make(longest_job(dice, radius), LONGEST_ROOM, MOST_POINTS))
     longest = longest_job(dice, MOST_RADIUS + 1)
     yield expect(22, make(longest, LONGEST_ROOM, MOST_POINTS))
     yield expect_at(21, len(longest), make(longest + b"\6", None, MOST_POINTS))
@@ -74,8 +69,8 @@ def told_or_read(dice, make, radius):
 
 
 def room_cases(dice, ask):
-    """Room that is just enough, or one place short in each list by turns, with few clamps and with all; where the radius is too large, that is told."""
-    for radius, clamps in ((0, 1), (5, 2), (MOST_RADIUS, MOST_CLAMPS)):
+    """Room that is just enough, or one place short in each list by turns; where the radius is too large, that is told."""
+    for radius, clamps in ((0, 1), (5, 2), (MOST_RADIUS, 9)):
         curve, sides = wide_job(dice, radius, clamps, clamps, points=6)
         data, wider = job_of(curve, sides, radius), job_of(curve, sides, dice.pick(TOO_LARGE))
         room = (*room_for(curve), 4 * clamps)
