@@ -22,14 +22,28 @@ struct lent {
 };
 
 static unsigned char *arena;
+static unsigned char *guards[2]; /* by filling: what a guard holds at each place of the arena, worked out once, for every call fills and reads many */
 static size_t used;
 static enum filling filling;
 static struct lent lists[MOST_LENT];
 static size_t lent_count;
 
-static unsigned char guard_at(size_t place)
+static unsigned char *memory(void)
 {
-    return (unsigned char)((filling == FIRST ? 0x00 : 0xFF) ^ (place * 29 + place / 256));
+    unsigned char *some = malloc(ARENA);
+    if (some == NULL) {
+        fprintf(stderr, "there is no memory for the lists\n");
+        exit(2);
+    }
+    return some;
+}
+
+static unsigned char *guards_of(enum filling chosen)
+{
+    unsigned char *guard = memory();
+    for (size_t place = 0; place < ARENA; place++)
+        guard[place] = (unsigned char)((chosen == FIRST ? 0x00 : 0xFF) ^ (place * 29 + place / 256));
+    return guard;
 }
 
 static unsigned char number_before(size_t k)
@@ -39,26 +53,20 @@ static unsigned char number_before(size_t k)
 
 static void fill_guard(size_t from, size_t until)
 {
-    for (size_t i = from; i < until; i++)
-        arena[i] = guard_at(i);
+    memcpy(arena + from, guards[filling] + from, until - from);
 }
 
 static int guard_holds(size_t from, size_t until)
 {
-    for (size_t i = from; i < until; i++)
-        if (arena[i] != guard_at(i))
-            return 0;
-    return 1;
+    return memcmp(arena + from, guards[filling] + from, until - from) == 0;
 }
 
 void begin_lending(enum filling chosen)
 {
     if (arena == NULL)
-        arena = malloc(ARENA);
-    if (arena == NULL) {
-        fprintf(stderr, "there is no memory for the lists\n");
-        exit(2);
-    }
+        arena = memory();
+    if (guards[chosen] == NULL)
+        guards[chosen] = guards_of(chosen);
     filling = chosen;
     lent_count = 0;
     used = GUARD;
