@@ -1,4 +1,4 @@
--- A whole point lies in a widened clamp exactly where on either axis it is at most the radius away from some whole number between the sides.
+-- A whole point lies in a widened clamp exactly where on each axis it is at most the radius away from some whole number between the sides.
 use mathlib.Core.Bool.{Bool, true, false}
 use mathlib.Core.Path.{_≡_, refl}
 use Prim.Native.Nat.{ℕ, _≤_}

@@ -45,7 +45,7 @@ pub record Near (radius : ℕ) (low high z : ℤ) : Type 0 where
   pub to : other ≤ℤ high
   pub apart : natAbs (z -ℤ other) ≤ radius
 
--- a whole point lies in the widened clamp exactly where on either axis it is at most the radius away from some whole number between the clamp's sides
+-- a whole point lies in the widened clamp exactly where on each axis it is at most the radius away from some whole number between the clamp's sides
 abbrev pub WidenedExactly : Type 0
 WidenedExactly =
     (radius : ℕ) (clamp : Rectangle) (x y : ℤ) → clamp .«low_x» ≤ℤ clamp .«high_x» → clamp .«low_y» ≤ℤ clamp .«high_y»

@@ -93,7 +93,7 @@ CutsReported = EveryCutReported
 abbrev pub CrossingsReported : Type 0
 CrossingsReported = NoWidthIsThePoint × EveryCrossingReported
 
--- "Spans to check": a span is listed exactly when it is one of m to n, not empty, and some whole point of its box is at most the radius away, on either axis,
+-- "Spans to check": a span is listed exactly when it is one of m to n, not empty, and some whole point of its box is at most the radius away, on each axis,
 -- from some whole point of the clamp; the list rises, its knots are those of each very span, and the non-empty spans are one fewer than the different knots of
 -- the domain
 abbrev pub SpansListedExactly : Type 0

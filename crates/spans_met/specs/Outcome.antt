@@ -26,7 +26,7 @@ abbrev pub SuccessListsSpans : Type 0
 SuccessListsSpans =
     (m : ℕ) (c : Lists) (clamp : Rectangle) (radius : ℕ) (before : SpanLists) → listNumber m c clamp radius before ≡ 0 → ListedSpans m c clamp radius before
 
--- i is a span, from m to n; it is not empty; and some whole point of its box is at most the radius away, on either axis, from some whole point of the clamp
+-- i is a span, from m to n; it is not empty; and some whole point of its box is at most the radius away, on each axis, from some whole point of the clamp
 pub record MayReach (clamp : Rectangle) (radius m : ℕ) (ts : List ℕ) (xs ys : List ℤ) (i : ℕ) : Type 0 where
   pub from : m ≤ i
   pub to : i < length xs
