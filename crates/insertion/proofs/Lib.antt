@@ -6,6 +6,7 @@ pub mod PartLaws
 pub mod SpanLaws
 pub mod KnotLaws
 pub mod QuotientLaws
+pub mod KnownLaws
 pub mod WholeLaws
 pub mod PointLaws
 pub mod CheckedLaws

@@ -15,8 +15,8 @@ use Rattle.insertion.specs.Standing.{Insertable}
 use Rattle.insertion.specs.Sentences.{Between, Quotient, NewPoints}
 use Rattle.insertion.proofs.SpanLaws.{span-least, span-only, span-weighed}
 use Rattle.insertion.proofs.WholeLaws.{whole-of-each}
+use Rattle.insertion.proofs.KnownLaws.{quotient-whole, quotient-unique, quotient-old}
 use Rattle.meeting_points.proofs.ListLaws.{one-put-in}
-use Rattle.meeting_points.proofs.QuotientLaws.{quotient-whole, quotient-unique, quotient-old}
 
 -- v stands behind t_k, twice and no more
 pub record Twice (ts : List ℕ) (v k : ℕ) : Type 0 where

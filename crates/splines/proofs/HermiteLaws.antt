@@ -3,7 +3,7 @@
 -- Others may cite `triangle-is-bezier`, `bezier-is-hermite`, `piece-is-hermite`.
 use mathlib.Core.Path.{_≡_, refl, ap, ap₂, sym, _∙_, fun-ext}
 use mathlib.Core.List.{[], _∷_}
-use Prim.Native.Nat.{ℕ, zero, suc, _+_, _-_, _≤_, _<_}
+use Prim.Native.Nat.{ℕ, _+_, _-_, _≤_, _<_}
 use native.Mathlib.Omega.{arith}
 use Rattle.algebra.specs.Operations.{Operations, sub, div}
 use Rattle.algebra.specs.OrderedField.{OrderedField, Below}
@@ -12,16 +12,12 @@ use Rattle.algebra.proofs.Expressions.{var, lit, _⊕_, _⊗_, _⊖_, expressio
 use Rattle.algebra.proofs.Solver.{ring, linear-combination, fact}
 use Rattle.splines.specs.Basis.{curveAt}
 use Rattle.splines.specs.Triangle.{cell, entry}
-use Rattle.splines.specs.Bezier.{bernstein, bezier, hermiteAt, hermite}
+use Rattle.splines.specs.Bezier.{casteljau, bernstein, bezier, hermiteAt, hermite}
 use Rattle.splines.proofs.SpanLaws.{divisor-inverse}
 use Rattle.splines.proofs.TriangleLaws.{triangle-is-curve}
+use Rattle.splines.proofs.BezierLaws.{entry-is-casteljau}
 
--- the triangle with knots a and b alone
-casteljau : (O : Operations) (a b : O .Number) (ps : ℕ → O .Number) (t : O .Number) → ℕ → ℕ → O .Number
-casteljau O a b ps t zero j = ps j
-casteljau O a b ps t (suc r) j = cell O b t a (casteljau O a b ps t r (j - 1)) (casteljau O a b ps t r j)
-
--- three rows of it, over what works out a cell from two entries
+-- three rows of de Casteljau's scheme, over what works out a cell from two entries
 abbrev rows : {A : Type 0} (f : A → A → A) (p₀ p₁ p₂ p₃ : A) → A
 rows f p₀ p₁ p₂ p₃ = f (f (f p₀ p₁) (f p₁ p₂)) (f (f p₁ p₂) (f p₂ p₃))
 
@@ -78,24 +74,12 @@ module _ (F : OrderedField) where
           ((var 1 ⊖ var 2) ⊗ var 3) (lit 1 ⊖ (var 2 ⊖ var 0) ⊗ var 3)
           (fact (lit 1) ((var 1 ⊖ var 0) ⊗ var 3) (lit 1) ∷ []) (divisor-inverse F a b some, tt) refl
 
-  module _ (ts ps : ℕ → Number) (i m : ℕ) (a b t : Number) (mi : m ≤ i)
-      (starts : (j : ℕ) → j ≤ i → i < j + m → ts j ≡ a) (ends : (j : ℕ) → i < j → j ≤ i + m → ts j ≡ b) where
-    entry-is-casteljau : (r j : ℕ) → r ≤ m → i + r ≤ j + m → j ≤ i → entry O ts ps m t r j ≡ casteljau O a b ps t r j
-    unfolding entry casteljau
-    entry-is-casteljau zero j h k l = refl
-    entry-is-casteljau (suc r) j h k l =
-        ap₂ (λ w low. cell O w t low (entry O ts ps m t r (j - 1)) (entry O ts ps m t r j))
-        (ends (j + m - r) (omega arith) (omega arith)) (starts j l (omega arith))
-        ∙ ap₂ (cell O b t a)
-        (entry-is-casteljau r (j - 1) (omega arith) (omega arith) (omega arith))
-        (entry-is-casteljau r j (omega arith) (omega arith) l)
-
   module _ (ts ps : ℕ → Number) (i : ℕ) (a b t : Number) (full : 3 ≤ i)
       (starts : (j : ℕ) → j ≤ i → i < j + 3 → ts j ≡ a) (ends : (j : ℕ) → i < j → j ≤ i + 3 → ts j ≡ b) where
     pub triangle-is-bezier : entry O ts ps 3 t 3 i ≡ bezier O a b (ps (i - 3)) (ps (i - 2)) (ps (i - 1)) (ps i) t
     unfolding casteljau
     triangle-is-bezier =
-        entry-is-casteljau ts ps i 3 a b t full starts ends 3 i (omega arith) (omega arith) (omega arith)
+        entry-is-casteljau F ts ps i 3 a b t full starts ends 3 i (omega arith) (omega arith) (omega arith)
         ∙ ap₂ (λ x y. rows (cell O b t a) (ps x) (ps y) (ps (i - 1)) (ps i)) third second
         ∙ rows-are-bezier a b t (ps (i - 3)) (ps (i - 2)) (ps (i - 1)) (ps i)
       where

@@ -5,8 +5,9 @@ pub mod SpanLaws
 pub mod BasisLaws
 pub mod TriangleLaws
 pub mod HullLaws
-pub mod HermiteLaws
 pub mod CellLaws
+pub mod BezierLaws
+pub mod HermiteLaws
 pub mod InsertedLaws
 pub mod InsertionLaws
 pub mod InsertedSpanLaws

@@ -1,7 +1,15 @@
--- A cubic over the interval from a to b (heading "Joining spline points"): by four
--- control numbers, and by its values p, q and tangents u, v at the two ends.
+-- A curve over the interval from a to b (headings "Joining spline points" and "Out to SVG"): of any degree by its control numbers; a cubic by
+-- four of them, and by its values p, q and tangents u, v at the two ends.
+use Prim.Native.Nat.{ℕ, zero, suc, _-_}
 use Rattle.algebra.specs.Operations.{Operations, sub, div}
 use Rattle.algebra.specs.Ring.{numeral}
+use Rattle.splines.specs.Triangle.{cell}
+
+-- de Casteljau's scheme: row 0 is the control numbers, and entry j of the next row is ((b - t)·left + (t - a)·right) / (b - a) of the entries
+-- j-1 and j; entry m of row m is the Bezier curve of degree m at t
+unfoldable pub casteljau : (O : Operations) (a b : O .Number) (ps : ℕ → O .Number) (t : O .Number) → ℕ → ℕ → O .Number
+casteljau O a b ps t zero j = ps j
+casteljau O a b ps t (suc r) j = cell O b t a (casteljau O a b ps t r (j - 1)) (casteljau O a b ps t r j)
 
 -- x³·p₀ + 3·y·x²·p₁ + 3·y²·x·p₂ + y³·p₃
 abbrev pub bernstein : (O : Operations) (x y p₀ p₁ p₂ p₃ : O .Number) → O .Number

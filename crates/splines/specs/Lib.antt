@@ -1,4 +1,4 @@
--- B-spline curves over any arithmetic: the basis, the curve from it, de Boor's triangle, inserting a knot, cubic pieces;
+-- B-spline curves over any arithmetic: the basis, the curve from it, de Boor's triangle, inserting a knot, Bezier curves and cubics;
 -- over an ordered field, what is asked of knots and parameter.
 pub mod Basis
 pub mod Triangle
