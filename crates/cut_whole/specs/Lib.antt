@@ -1,0 +1,2 @@
+-- What cutting gives, told over whole curves.
+pub mod Sentences

@@ -1,0 +1,3 @@
+-- Laws of cutting a curve.
+pub mod EachLaws
+pub mod FourLaws
