@@ -1,0 +1,3 @@
+-- Laws of insertions at one span.
+pub mod InsertLaws
+pub mod FillLaws

@@ -1,0 +1,4 @@
+-- Laws of cutting at a span.
+pub mod KnotLaws
+pub mod AxisLaws
+pub mod StepLaws
