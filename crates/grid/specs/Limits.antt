@@ -1,5 +1,5 @@
 -- Every limit of the grid and of its files, by a name, once.
-use Prim.Native.Nat.{ℕ, _+_, _*_}
+use Prim.Native.Nat.{ℕ, _+_, _-_, _*_}
 
 abbrev pub pointsMost : ℕ  -- "The curve on the grid": points of a curve
 pointsMost = 1024
@@ -48,3 +48,12 @@ recordMost = 4 * headBytes + (1 + knotBytesMost + coordinateBytesMost + coordina
 
 abbrev pub jobMost : ℕ
 jobMost = recordMost + (headBytes + radiusBytes) + clampsMost * (headBytes + clampBytes)
+
+abbrev pub numberBytesMost : ℕ  -- "Out to SVG": bytes of a coordinate, a minus sign and six digits; and of " x y"
+numberBytesMost = 7
+
+abbrev pub pairBytesMost : ℕ
+pairBytesMost = 2 * (1 + numberBytesMost)
+
+abbrev pub svgMost : ℕ  -- the longest path data: "M x y", and " L x y" for each further point, for at degree 1 every point has a letter of its own
+svgMost = (1 + pairBytesMost) + (pointsMost - 1) * (2 + pairBytesMost)

@@ -48,6 +48,12 @@ pub const JOB_MOST: usize = RECORD_MOST
     + (HEAD_BYTES + RADIUS_BYTES)
     + CLAMPS_MOST * (HEAD_BYTES + CLAMP_BYTES);
 
+pub const NUMBER_BYTES_MOST: usize = 7;
+
+pub const PAIR_BYTES_MOST: usize = 2 * (1 + NUMBER_BYTES_MOST);
+
+pub const SVG_MOST: usize = 1 + PAIR_BYTES_MOST + (POINTS_MOST - 1) * (2 + PAIR_BYTES_MOST);
+
 // 0, or the lowest of the numbers 1 to 7 that applies.
 pub fn check(degree: u32, knots: &[u16], xs: &[i32], ys: &[i32]) -> u32
     ensures answer { λ r. ⌜ r ≡ checkNumber degree (now (knots .entry)) (now (xs .entry)) (now (ys .entry)) ⌝ }

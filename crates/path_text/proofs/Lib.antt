@@ -1,0 +1,1 @@
+-- Its laws are those of `path_data` and `path_words`.

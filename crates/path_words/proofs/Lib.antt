@@ -1,0 +1,2 @@
+-- Laws of numbers that code reads.
+pub mod NumberLaws

@@ -1,0 +1,1 @@
+-- No definitions: the words of its contracts are those of `path_data`.
