@@ -79,7 +79,7 @@
  * refused by 19, or by 16 where it ends there, so jobs made before have to be made again; records have not changed.
  * A radius above 4096 is refused by 22, which is new. The stack of tsb_spans is 264 bytes, where it was 232.
  */
-#define TSB_API_VERSION 5
+#define TSB_API_VERSION 6
 
 /* The limits, and places that are always enough for a result. */
 #define TSB_POINTS_MOST 1024       /* points of a curve */
@@ -92,6 +92,7 @@
 #define TSB_CLAMPS_MOST 64         /* clamps of a job */
 #define TSB_RADIUS_MOST 4096       /* steps of a cutter's radius */
 #define TSB_WORK_MOST TSB_JOB_MOST /* bytes of the longest job: places that tsb_feed asks of a work list, or more */
+#define TSB_SVG_MOST 18431         /* bytes of the longest path data */
 
 /* The refusal numbers. */
 enum tsb_refusal {
@@ -270,6 +271,16 @@ uint32_t tsb_spans(
  * Refused by 1 to 7, then 15.
  */
 uint32_t tsb_write_record(
+    uint32_t degree, const uint16_t *knots, size_t knots_len,
+    const int32_t *xs, size_t xs_len, const int32_t *ys, size_t ys_len,
+    uint8_t *TSB_RESTRICT out, size_t out_len,
+    size_t *TSB_RESTRICT length);
+
+/*
+ * The curve as path data of SVG: the number of bytes goes to *length.
+ * Refused by 1 to 7, then 10 or 11, then 15.
+ */
+uint32_t tsb_svg(
     uint32_t degree, const uint16_t *knots, size_t knots_len,
     const int32_t *xs, size_t xs_len, const int32_t *ys, size_t ys_len,
     uint8_t *TSB_RESTRICT out, size_t out_len,

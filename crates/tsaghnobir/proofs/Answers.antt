@@ -11,6 +11,7 @@ use Rattle.joining.specs.declared.JoinAnswer.the-variants as joined
 use Rattle.record.specs.declared.WriteAnswer.the-variants as written
 use Rattle.record.specs.declared.ReadAnswer.the-variants as read
 use Rattle.job.specs.declared.JobAnswer.the-variants as job
+use Rattle.svg_out.specs.declared.SvgAnswer.the-variants as drawn
 use Rattle.feed.specs.declared.BurstAnswer.the-variants as burst
 use Rattle.tsaghnobir.proofs.ArmLaws.{Variants, Told}
 
@@ -34,6 +35,9 @@ join-variants = record { apart = λ v n e. cc; same-value = λ v w e. cc; same-n
 
 pub write-variants : Variants written.Written written.Refused
 write-variants = record { apart = λ v n e. cc; same-value = λ v w e. cc; same-number = λ m n e. cc }
+
+pub svg-variants : Variants drawn.Written drawn.Refused
+svg-variants = record { apart = λ v n e. cc; same-value = λ v w e. cc; same-number = λ m n e. cc }
 
 pub burst-variants : Variants burst.Fed burst.Refused
 burst-variants = record { apart = λ v n e. cc; same-value = λ v w e. cc; same-number = λ m n e. cc }

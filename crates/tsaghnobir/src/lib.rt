@@ -2,6 +2,7 @@
 // Each answers with the number of refusal, 0 for none, and writes through lent places what the wrapped call answers.
 mod bursts;
 mod bytes;
+mod drawings;
 mod knots;
 mod questions;
 mod spline_points;
@@ -11,6 +12,7 @@ pub use bursts::tsb_feed_end;
 pub use bytes::tsb_read_job;
 pub use bytes::tsb_read_record;
 pub use bytes::tsb_write_record;
+pub use drawings::tsb_svg;
 pub use knots::tsb_compact;
 pub use knots::tsb_insert;
 pub use knots::tsb_remove;
