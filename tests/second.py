@@ -6,7 +6,7 @@
 
 The scripts tests/after/door_cases.py and text_cases.py run the cases through the proved library and the program, and hold what
 they answer to the same files. SECOND_FAULT=CALL plants one fault in that call here, and the comparison must then fail; a reader, feeding,
-joining and the cutter's radius have more faults, which second_program/fault.py lists. A name that is no fault, or none of the calls compared, is an error.
+joining, the cutter's radius and path data have more faults, which second_program/fault.py lists. A name that is no fault, or none of the calls compared, is an error.
 """
 
 import sys
@@ -26,7 +26,7 @@ ANSWERS = FOLDER / "answers"
 LEAST_CASES = 2000
 LEAST_OF_CALL = 50
 LEAST_OF_REFUSAL = 20
-MOST_LARGE = 122
+MOST_LARGE = 163
 LARGE = 256
 MOST_BYTES = 4 * 1024 * 1024
 CHECK = (1, 2, 3, 4, 5, 6, 7)
@@ -48,6 +48,7 @@ REFUSALS = dict(
     clampcheck_text=BROKEN + CHECK + CLAMPS,
     feed=BROKEN + CHECK + CLAMPS + (15,),
     join=JOINING,
+    svg=CHECK + (10, 11, 15),
 )
 
 
@@ -94,7 +95,7 @@ def compare(calls):
         faults += too_few_hits(hits)
     if not faults:
         reached = "%(inside)d exact points in clamps, %(within)d within the radius of one, %(at_side)d at it from a side, %(at_corner)d from a corner" % hits
-        print("%d cases; %d computed points within 2^-30; %s" % (len(cases), near, reached))
+        print("%d cases; %d computed points within 2^-30; %s; %d exact pieces" % (len(cases), near, reached, hits["pieces"]))
     return faults
 
 

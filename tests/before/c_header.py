@@ -37,7 +37,7 @@ def declarations(header):
 def limits():
     """The limits of the library, each worked out from the ones before it."""
     values = {}
-    for name, value in re.findall(r"^pub const (\w+): \w+ = ([\w\s+*()]+);", (root / "crates/grid/src/lib.rt").read_text(), re.M):
+    for name, value in re.findall(r"^pub const (\w+): \w+ = ([\w\s+*()-]+);", (root / "crates/grid/src/lib.rt").read_text(), re.M):
         values[name] = eval(" ".join(value.split()), {}, values)
     return values
 

@@ -27,6 +27,8 @@ NOWHERE = (
     ("join:keeps_meeting", ("join_through_points",)),
     ("list_spans_met:radius_twice", ()),
     ("list_spans_met:three_sides", ("read_job",)),
+    ("svg:keeps_meeting", ()),
+    ("svg:comma", ("write_record",)),
 )
 
 

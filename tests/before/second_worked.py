@@ -35,6 +35,8 @@ from second_program.join_cases import spline_points
 from second_program.joining import THREE_TIMES, TWICE, join, pieces_of
 from second_program.knots import compact, insert_knot, polygon_with, remove_knot
 from second_program.long_feed_cases import longest_fields
+from second_program.path_data import svg
+from second_program.pieces import Piece, cut
 from second_program.random_curves import random_curve
 from second_program.record import Fault, clampcheck_text, read_job, read_record, record_of, take_job, take_lone_record
 from second_program.remove_cases import SMOOTH, smooth_joined
@@ -134,6 +136,25 @@ class WorkedByHand(unittest.TestCase):
         self.assertEqual(read_job(job_of(WORKED_A, CLAMPS, 4096), (8, 4, 4, 12)), (0, None, WORKED_A, CLAMPS, 4096))
 
 
+    def test_pieces(self):
+        self.assertEqual(cut(WORKED_A), (0, [Piece(0, 4, [(0, 0), (0, 8), (8, 8), (8, 0)])]))
+        halves = [Piece(0, 2, [(0, 0), (4, 8), (6, 8), (0, 0)]), Piece(2, 4, [(6, 8), (8, 8), (12, 0), (0, 0)])]
+        self.assertEqual(cut(WORKED_B), (0, halves))
+        line = Curve(1, [7, 7, 10, 12, 12], [-7, 0, 5], [1, 2, -3])
+        self.assertEqual(cut(line), (0, [Piece(7, 10, [(-7, 1), (0, 2), (0, 0), (0, 0)]), Piece(10, 12, [(0, 2), (5, -3), (0, 0), (0, 0)])]))
+
+    def test_path_data(self):
+        self.assertEqual(svg(WORKED_A, 19), (0, b"M 0 0 C 0 8 8 8 8 0"))
+        self.assertEqual(svg(WORKED_B, 26), (0, b"M 0 0 Q 4 8 6 8 Q 8 8 12 0"))
+        self.assertEqual([svg(WORKED_A, 18)[0], svg(WORKED_B, 25)[0]], [15, 15])
+        self.assertEqual(svg(Curve(1, [7, 7, 10, 12, 12], [-7, 0, 5], [1, 2, -3]), 21), (0, b"M -7 1 L 0 2 L 5 -3"))
+        once = Curve(3, [0, 0, 0, 0, 2, 4, 4, 4, 4], [0, 0, 4, 8, 8], [0, 4, 8, 4, 0])
+        self.assertEqual(svg(once, 33), (0, b"M 0 0 C 0 4 2 6 4 6 C 6 6 8 4 8 0"))
+        self.assertEqual([svg(WORKED_B._replace(ys=[0, 7, 8, 0]), 0)[0], svg(once._replace(xs=[0, 0, 2, 2, 8]), 0)[0]], [11, 11])
+        full = Curve(2, [0, 0, *range(1023), 1022, 1022], [k % 2 for k in range(1024)], [0] * 1024)
+        self.assertEqual(svg(full, 0)[0], 10)
+
+
 def by_second_program(case):
     """The same case, asked of the second program."""
     reader = Reader(case.body)
@@ -149,7 +170,7 @@ def by_second_program(case):
     curve, rest = Curve(*given[:4]), given[4:]
     if case.call == "list_spans_met":
         rest = [tuple(rest[:4]), rest[4]]
-    if case.call == "write_record":
+    if case.call in ("write_record", "svg"):
         rest = [room[0]]
     elif room:
         rest.append(room)
@@ -191,6 +212,9 @@ class WorkedFile(unittest.TestCase):
             (", y 3x_", ""),
             ("one\n", "curve A\n"),
             ("refused 9", "refused 9 at 3"),
+            ("5x_", '"4x"'),
+            ("5x_", '"five"_'),
+            ("5x_", '"five'),
         ):
             with self.subTest(wrong), self.assertRaises(Unreadable):
                 worked_cases(sound.replace(right, wrong))

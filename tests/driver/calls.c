@@ -190,13 +190,18 @@ static uint32_t spans(void)
     return refusal;
 }
 
-static uint32_t write_record(void)
+/* A curve as bytes, a record or path data: both are asked alike. */
+typedef uint32_t writing(
+    uint32_t degree, const uint16_t *knots, size_t knots_len, const int32_t *xs, size_t xs_len, const int32_t *ys, size_t ys_len,
+    uint8_t *out, size_t out_len, size_t *length);
+
+static uint32_t write_curve(writing *export)
 {
     struct curve c = take_curve();
     size_t out_len;
     uint8_t *out = take_places("out", 1, &out_len);
     size_t *length = lend_number("length", sizeof *length);
-    uint32_t refusal = tsb_write_record(GIVEN(c), out, out_len, length);
+    uint32_t refusal = export(GIVEN(c), out, out_len, length);
     put_number(refusal);
     if (refusal == TSB_OK)
         put_count(*length);
@@ -265,12 +270,13 @@ int call_export(unsigned char number, size_t step, struct outcome *outcome)
     case 6: outcome->ending = ending_of(compact()); break;
     case 7: outcome->ending = ending_of(join(tsb_join_through_points)); break;
     case 8: outcome->ending = ending_of(spans()); break;
-    case 9: outcome->ending = ending_of(write_record()); break;
+    case 9: outcome->ending = ending_of(write_curve(tsb_write_record)); break;
     case 10: outcome->ending = ending_of(read_record()); break;
     case 11: outcome->ending = ending_of(read_job()); break;
     /* 12 is the text of clampcheck, which has no export */
     case 13: outcome->goes_on = feed_step(step, &outcome->ending); break;
     case 14: outcome->ending = ending_of(join(tsb_join)); break;
+    case 15: outcome->ending = ending_of(write_curve(tsb_svg)); break;
     default: return 0;
     }
     outcome->wrong = counts_fit() ? wrong : "a count or a place does not fit into 32 bits";

@@ -33,7 +33,8 @@ def entries_of(word):
 
 
 def written_out(text):
-    """The text with what stands in brackets repeated as often as it says."""
+    """The text with the codes of what stands in quotes, and with what stands in brackets repeated as often as it says."""
+    text = re.sub(r'"([ -~]*?)"', lambda quoted: " ".join(str(code) for code in quoted[1].encode("ascii")), text)
     return re.sub(r"(\d+)x\(([^(),]*)\)", lambda group: " ".join([group[2]] * int(group[1])), text)
 
 

@@ -52,6 +52,7 @@ SHAPES = dict(
     clampcheck_text=Shape((("bytes", "u8[]"),), always=(("text", "text"),)),
     feed=Shape((("places", "u32"), ("front", "u8[]"), ("received", "u64")), JOB, LISTS + SIDES_LIST, broken=PLACE),
     join=JOINING,
+    svg=Shape(CURVE, (("length", "u32"),), (("path", "u8"),)),
 )
 assert tuple(SHAPES) == CALLS
 EXPORTED = tuple(call for call in CALLS if call != "clampcheck_text")  # the text of clampcheck has no export

@@ -15,6 +15,7 @@ from .job_cases import clampcheck_text_cases, read_job_cases
 from .join_cases import join_through_points_cases
 from .record_cases import read_record_cases, write_record_cases
 from .remove_cases import compact_cases, remove_knot_cases
+from .svg_cases import svg_cases
 
 
 def in_turn(*makers):
@@ -36,6 +37,7 @@ SECTIONS = dict(
     clampcheck_text=in_turn(clampcheck_text_cases, cutter_text_cases),
     feed=in_turn(feed_cases, cutter_feed_cases),
     join=join_cases,
+    svg=svg_cases,
 )
 
 

@@ -1,7 +1,8 @@
 """The third demand, tried on the curves of the cases: a computed coordinate lies within 2^-30 of the exact one, and where an exact point lies no farther
-from a point of a clamp than the cutter's radius, a span that holds its parameter is listed.
+from a point of a clamp than the cutter's radius, a span that holds its parameter is listed. And the pieces of every curve that is written as path data are the
+exact curve.
 
-reach_cases.py has the points of clamps, and contacts that are made to lie exactly at the radius."""
+reach_cases.py has the points of clamps, and contacts that are made to lie exactly at the radius; exact_pieces.py says what is asked of pieces."""
 
 from collections import Counter
 from fractions import Fraction
@@ -10,12 +11,15 @@ from .clamp_cases import random_fraction
 from .curve import domain, exact_point, point_at
 from .cutter_cases import some_radius
 from .dice import Dice
+from .exact_pieces import inexact, misheld, to_be_tried
+from .pieces import cut
 from .reach_cases import clamp_points, made_contacts
 from .spans import met
 
 BOUND = Fraction(1, 2**30)
-# How often all cases together have to hit: in a clamp, within the radius of one of its points, exactly at it from a side and from a corner.
-LEAST = dict(inside=6000, within=3000, at_side=2500, at_corner=2500)
+# How often all cases together have to hit: in a clamp, within the radius of one of its points, exactly at it from a side and from a corner; and how many pieces
+# are to be tried.
+LEAST = dict(inside=6000, within=3000, at_side=2500, at_corner=2500, pieces=800)
 
 
 class Broken(Exception):
@@ -64,6 +68,17 @@ def try_contacts(dice, curve, hits, listed=met):
         hits[kind] += 1
 
 
+def try_pieces(dice, curve, hits, cutting=cut):
+    """The pieces of a curve that can be cut."""
+    number, pieces = cutting(curve)
+    wrong = "refused by %d" % number if number else misheld(curve, pieces)
+    tried = [] if wrong else to_be_tried(dice, pieces)
+    wrong = wrong or inexact(dice, curve, tried)
+    if wrong:
+        raise Broken("%s: cutting %r" % (wrong, curve))
+    hits["pieces"] += len(tried)
+
+
 def try_case(dice, case, hits):
     """The number of parameters that were tried; what was hit is counted in hits."""
     curve = case.curve
@@ -77,6 +92,8 @@ def try_case(dice, case, hits):
     try_points(dice, curve, grid_round(curve, u), 0, u, hits)
     try_points(dice, curve, grid_round(curve, random_fraction(dice, curve)), some_radius(dice), u, hits)
     try_contacts(dice, curve, hits)
+    if case.call == "svg":
+        try_pieces(dice, curve, hits)
     return len(asked)
 
 
@@ -90,4 +107,4 @@ def try_demands(cases):
 
 
 def too_few_hits(hits):
-    return ["%d exact points were tried %s" % (hits[kind], kind) for kind, least in LEAST.items() if hits[kind] < least]
+    return ["only %d were tried: %s" % (hits[kind], kind) for kind, least in LEAST.items() if hits[kind] < least]

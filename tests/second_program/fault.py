@@ -10,7 +10,7 @@ PLANTED = os.environ.get("SECOND_FAULT")
 _answering = []
 
 # Faults beside the one that each call has: of a reader's places, of what it tells first, of what is kept between bursts, of the points where
-# joined pieces meet, and of the cutter's radius.
+# joined pieces meet, of the cutter's radius, and of the pieces and the text of path data.
 MORE = (
     "read_record:length_place",  # the place of a length told as that of its tag
     "read_record:ended_first",  # 16 where the length is wrong and the contents run out too
@@ -51,6 +51,20 @@ MORE = (
     "feed:radius_twice",
     "feed:radius_untold",
     "feed:radius_last",
+    "svg:one_less",  # inner values inserted until they stand once less than the degree
+    "svg:from_right",  # inner values inserted from right to left
+    "svg:whole_first",  # 11 told before 10 by an insertion that is refused for both
+    "svg:counted_first",  # 10 told for all insertions together, before any is made
+    "svg:x_alone",  # 11 judged over x alone
+    "svg:third_unjudged",  # 11 not judged where a value gets its third knot
+    "svg:last_unjudged",  # 11 not judged at the last inner value
+    "svg:empty_pieces",  # a piece for every span, empty ones too
+    "svg:backwards",  # the points of each piece in the other order
+    "svg:comma",  # a comma between x and y
+    "svg:one_letter",  # the letter of the degree with the first piece alone
+    "svg:newline",  # a newline behind the text
+    "svg:room_of_longest",  # 15 judged by what the longest text needs
+    "svg:room_first",  # 15 told before 10 and 11
 )
 
 

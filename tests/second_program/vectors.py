@@ -19,7 +19,7 @@ import struct
 from typing import NamedTuple, Optional, Sequence
 
 from . import curve as curves
-from . import joining, knots, record, spans
+from . import joining, knots, path_data, record, spans
 from .fault import answering, must_be_of
 
 CALLS = (
@@ -37,6 +37,7 @@ CALLS = (
     "clampcheck_text",
     "feed",
     "join",
+    "svg",
 )
 must_be_of(CALLS)
 FORMATS = {"u8": "B", "u16": "H", "i32": "i"}
@@ -173,12 +174,22 @@ def list_spans_met(curve, rectangle, radius, room):
     return case("list_spans_met", number, arguments, counts + lists, size(curve), curve, (), [rectangle], radius)
 
 
-@answering
-def write_record(curve, room):
-    number, data = record.write_record(curve, room)
+def writing_call(call, function, curve, room):
+    """A curve as bytes, in one lent list."""
+    number, data = function(curve, room)
     counts = u32(len(data)) if number == 0 else b""
     answer = counts + after("u8", room, data if number == 0 else [])
-    return case("write_record", number, curve_bytes(curve) + u32(room), answer, size(curve), curve)
+    return case(call, number, curve_bytes(curve) + u32(room), answer, size(curve), curve)
+
+
+@answering
+def write_record(curve, room):
+    return writing_call("write_record", record.write_record, curve, room)
+
+
+@answering
+def svg(curve, room):
+    return writing_call("svg", path_data.svg, curve, room)
 
 
 def told_of_reading(number, place, *counts):

@@ -37,16 +37,17 @@ SEEN(tsb_join)
 SEEN(tsb_join_through_points)
 SEEN(tsb_spans)
 SEEN(tsb_write_record)
+SEEN(tsb_svg)
 SEEN(tsb_read_record)
 SEEN(tsb_read_job)
 SEEN(tsb_feed)
 SEEN(tsb_feed_end)
 
-/* a cubic on a straight line with simple inner knots, its record and job and places for results */
+/* a cubic on a straight line with simple inner knots, which can be cut into pieces, its record and job and places for results */
 static uint16_t knots[KNOTS], out_knots[KNOTS], lows[POINTS], highs[POINTS];
 static int32_t xs[POINTS], ys[POINTS], out_xs[POINTS], out_ys[POINTS], clamps[TSB_CLAMPS_MOST * 4], tangents[JOINED];
-static uint8_t bytes[TSB_WORK_MOST], work[TSB_WORK_MOST];
-static size_t points, removed, length, place, clamp_count, received, first, count;
+static uint8_t bytes[TSB_WORK_MOST], work[TSB_WORK_MOST], path[TSB_SVG_MOST];
+static size_t points, removed, length, path_length, place, clamp_count, received, first, count;
 static uint32_t degree, radius;
 static double x, y;
 static size_t number_of_points;
@@ -65,6 +66,7 @@ static uint32_t remove_one(void) { return seen_tsb_remove(CURVE, 6, OUT, &points
 static uint32_t compact(void) { return seen_tsb_compact(CURVE, OUT, &points, &removed); }
 static uint32_t spans(void) { return seen_tsb_spans(CURVE, -9, 9000, -9, 9000, 150, lows, POINTS, highs, POINTS, &count); }
 static uint32_t write_record(void) { return seen_tsb_write_record(CURVE, bytes, sizeof bytes, &length); }
+static uint32_t svg(void) { return seen_tsb_svg(CURVE, path, sizeof path, &path_length); }
 static uint32_t read_record(void) { return seen_tsb_read_record(bytes, length, OUT, &degree, &points, &place); }
 static uint32_t read_job(void) { return seen_tsb_read_job(bytes, length + sizeof radius_field, JOB); }
 static uint32_t feed(void) { return seen_tsb_feed(bytes, length + sizeof radius_field, work, sizeof work, &received); }
@@ -109,7 +111,7 @@ static void make_curve(size_t many)
 {
     number_of_points = many;
     for (size_t j = 0; j < many; j++)
-        xs[j] = ys[j] = (int32_t)(6 * j);
+        xs[j] = ys[j] = (int32_t)(12 * j);
     for (size_t j = 0; j < many + 4; j++)
         knots[j] = (uint16_t)(j <= 3 ? 0 : j >= many ? 6 * (many - 3) : 6 * (j - 3));
 }
@@ -133,6 +135,7 @@ int main(void)
         seen("tsb_compact", compact);
         seen("tsb_spans", spans);
         seen("tsb_write_record", write_record);
+        seen("tsb_svg", svg);
         make_job();
         seen("tsb_read_record", read_record);
         seen("tsb_read_job", read_job);

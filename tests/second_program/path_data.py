@@ -1,0 +1,39 @@
+"""A curve as path data of SVG: `M` and the point where it starts, then for each piece the letter of its degree and its points behind the first. Single
+spaces, whole numbers, nothing behind the last."""
+
+from .curve import check
+from .fault import planted
+from .pieces import cut
+
+LETTERS = {1: "L", 2: "Q", 3: "C"}
+SHORTEST, LONGEST = len("M 0 0 L 0 0"), 18431  # the longest has degree 1, 1,024 points and six digits with a sign everywhere
+
+
+def written(letter, points):
+    pair = "%d,%d" if planted("svg:comma") else "%d %d"
+    return " ".join([letter] * (letter != "") + [pair % point for point in points])
+
+
+def path_data(m, start, pieces):
+    """The text of pieces of this degree; start is the first point of the first."""
+    parts = [written("M", [start])]
+    for k, piece in enumerate(pieces):
+        points = piece.points[: m + 1][::-1] if planted("svg:backwards") else piece.points[: m + 1]
+        letter = "" if k and planted("svg:one_letter") else LETTERS[m]
+        parts.append(written(letter, points[1:]))
+    return " ".join(parts) + ("\n" if planted("svg:newline") else "")
+
+
+def svg(curve, room):
+    """Number and the bytes: 1 to 7, then 10 or 11, then 15."""
+    number = check(curve)
+    if number:
+        return number, None
+    if planted("svg:room_first") and room < SHORTEST:
+        return 15, None
+    number, pieces = cut(curve)
+    if number:
+        return number, None
+    text = path_data(curve.degree, (curve.xs[0], curve.ys[0]), pieces).encode("ascii")
+    needed = LONGEST if planted("svg:room_of_longest") else len(text)
+    return (15 if room < needed else 0), text
