@@ -110,8 +110,8 @@ module _ (m : ℕ) (c : Lists) (past : Piece) (h : cutNumber m c ≡ accepted) w
 pub piece-is-curve : PieceIsCurve
 piece-is-curve axis m c k past h l p q above from to =
     let knots = piece-knots m c h in
-    rw (knots .low k past l, knots .high k past l)
-    (piece-is-old m c past h axis k p q l above (rw (knots .low k past l) at from) (rw (knots .high k past l) at to))
+    let end : p ≤ highAt m c k * q = omega (arith, rw (knots .high k past l) at to) in
+    rw (knots .low k past l, knots .high k past l) (piece-is-old m c past h axis k p q l above (rw (knots .low k past l) at from) end)
 
 pub pieces-meet : PiecesMeet
 pieces-meet m c k past h l =

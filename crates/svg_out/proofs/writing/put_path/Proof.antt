@@ -1,4 +1,4 @@
-use Prim.Native.Nat.{_-_}
+use Prim.Native.Nat.{_-_, _<_}
 use native.Mathlib.Omega.{arith}
 use lib.ListN.{length}
 use Rattle.curve.specs.Lists.{lists}
@@ -27,7 +27,7 @@ next-piece-requires c κs =
     let start = c .before .before .before .before .before .before in
     let a = start .args in
     let so = c .before .before .loop in
-    let test = c .if1 .taken in
+    let test : so .walk .span < length (a .xs .now) = omega (arith, c .if1 .taken) in
     writing-at (a .m) (lists (a .knots .now) (a .xs .now) (a .ys .now)) (a .out .now) (start .pre .1 .0) (start .pre .1 .1) (so .out) (so .walk) (so .place) (so .inv) test
 
 put-part-requires : tie.Need-put-part-requires Inv-loop μ-loop
@@ -35,7 +35,7 @@ put-part-requires c κs =
     let start = c .before .before .before .before .before .before .before .before .before in
     let a = start .args in
     let so = c .before .before .before .before .before .loop in
-    let test = c .before .before .before .if1 .taken in
+    let test : so .walk .span < length (a .xs .now) = omega (arith, c .before .before .before .if1 .taken) in
     let handed = c .before .before .next-piece in
     (bounds (a .m) (lists (a .knots .now) (a .xs .now) (a .ys .now)) (so .walk) (writing-at (a .m) (lists (a .knots .now) (a .xs .now) (a .ys .now)) (a .out .now) (start .pre .1 .0) (start .pre .1 .1) (so .out) (so .walk) (so .place) (so .inv) test) .degree, room-for-part (a .m) (lists (a .knots .now) (a .xs .now) (a .ys .now)) (a .out .now) (start .pre .1 .0) (start .pre .1 .1) (so .out) (so .walk) (so .place) (so .inv) test (handed .result) (handed .ensures))
 
@@ -44,7 +44,7 @@ loop-less c =
     let start = c .before .before .before .before .before .before .before .before .before .before .before .before .before in
     let a = start .args in
     let so = c .before .before .before .before .before .before .before .before .before .loop in
-    let test = c .before .before .before .before .before .before .before .if1 .taken in
+    let test : so .walk .span < length (a .xs .now) = omega (arith, c .before .before .before .before .before .before .before .if1 .taken) in
     let handed = c .before .before .before .before .before .before .next-piece in
     write-nearer (a .m) (lists (a .knots .now) (a .xs .now) (a .ys .now)) (a .out .now) (start .pre .1 .0) (start .pre .1 .1) (so .out) (so .walk) (so .place) (so .inv) test (handed .result) (handed .ensures)
 
@@ -53,7 +53,7 @@ loop-again c =
     let start = c .before .before .before .before .before .before .before .before .before .before .before .before .before in
     let a = start .args in
     let so = c .before .before .before .before .before .before .before .before .before .loop in
-    let test = c .before .before .before .before .before .before .before .if1 .taken in
+    let test : so .walk .span < length (a .xs .now) = omega (arith, c .before .before .before .before .before .before .before .if1 .taken) in
     let handed = c .before .before .before .before .before .before .next-piece in
     writing-goes (a .m) (lists (a .knots .now) (a .xs .now) (a .ys .now)) (a .out .now) (start .pre .1 .0) (start .pre .1 .1) (so .out) (so .walk) (so .place) (so .inv) test (handed .result) (handed .ensures) _ _ (c .before .before .before .put-part .ensures)
 
