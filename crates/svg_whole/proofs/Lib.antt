@@ -1,0 +1,2 @@
+-- Laws of a curve's path data.
+pub mod TextLaws

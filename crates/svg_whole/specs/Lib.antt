@@ -1,0 +1,2 @@
+-- What is promised of a curve's path data.
+pub mod Sentences

@@ -1,0 +1,1 @@
+// The path data of whole curves. There is nothing here that runs.
