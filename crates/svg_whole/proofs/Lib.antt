@@ -1,2 +1,4 @@
 -- Laws of a curve's path data.
 pub mod TextLaws
+pub mod OutcomeLaws
+mod Controls

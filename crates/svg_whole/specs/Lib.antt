@@ -1,2 +1,3 @@
--- What is promised of a curve's path data.
+-- What is promised of a curve's path data, and what the call answers.
 pub mod Sentences
+pub mod Outcome
