@@ -40,6 +40,13 @@ use Rattle.spans_met_exact.proofs.DistanceLaws.{no-width-is-the-point}
 use Rattle.knots_exact.proofs.InsertionLaws.{insert-keeps-curve}
 use Rattle.knots_exact.proofs.RemovalLaws.{remove-keeps-curve}
 use Rattle.joining_exact.proofs.EitherLaws.{join-passes, join-is-hermite, join-meets-points, join-has-entries, meeting-inserted, both-are-one-curve}
+use Rattle.cut_whole.proofs.SentenceLaws.{cut-passes, cuts-counted, cut-full, cut-sizes, cut-knots, spans-follow, piece-knots, cut-number-is}
+use Rattle.pieces_exact.proofs.KeptLaws.{cut-keeps-curve}
+use Rattle.pieces_exact.proofs.PointLaws.{piece-points}
+use Rattle.pieces_exact.proofs.PieceLaws.{piece-is-curve, pieces-meet, pieces-cover-domain}
+use Rattle.path_data.proofs.LongestLaws.{most-is-reached}
+use Rattle.svg_whole.proofs.TextLaws.{svg-is-path-data, svg-within-most}
+use Rattle.svg_whole.proofs.OutcomeLaws.{svg-answers-first, success-writes-text, refusal-writes-nothing}
 use Rattle.remove_knot.proofs.OutcomeLaws as Removal
 use Rattle.round_trip.proofs.RecordTrip.{written-reads-back, read-writes-back, one-record-for-each-curve, records-short, faults-exactly, reading-determined}
 use Rattle.round_trip.proofs.JobTrip.{job-reads-back, jobs-short, job-faults-exactly, job-reading-determined}
@@ -49,7 +56,7 @@ use Rattle.job_text.proofs.UniqueLaws.{one-text, broken-is-one-line}
 use Rattle.clear_is_clear.proofs.ClearLaws.{clear-is-clear, every-clamp-told, else-listed}
 use Rattle.knots_exact.proofs.CompactionLaws.{compact-keeps-curve, editing-passes}
 use Rattle.compact.proofs.OutcomeLaws as Compaction
-use Rattle.promises.specs.Promises.{CheckGivesLowestRow, RefusalsAnswerFirst, ResultsHandedOver, CarryingPointsCarry, SpansListedExactly, InsertedEntryByEntry, InsertedThenRemoved, CompactionTakesWhatItCounts, JoinedCurveMeetsPoints, MeetingPointsDropOut, ExportsDetermined, EveryParameterHasItsSpan, ComputedPointNearExact, CutsReported, CrossingsReported, InsertionKeepsCurve, RemovalKeepsCurve, RemovalDetermined, CompactionKeepsCurve, CompactionDetermined, EditedCurvePasses, JoinedCurvePasses, JoinedCurveIsHermite, RecordsGoRound, FaultIsLeftmost, PlacesToldWithFaults, ReadingIsExact, JobsReadBack, BurstsReadAsJoined, BurstsAreKept, ProgramWritesItsText, ClearMeansClear, WorkedCasesHold}
+use Rattle.promises.specs.Promises.{CheckGivesLowestRow, RefusalsAnswerFirst, ResultsHandedOver, CarryingPointsCarry, SpansListedExactly, InsertedEntryByEntry, InsertedThenRemoved, CompactionTakesWhatItCounts, JoinedCurveMeetsPoints, MeetingPointsDropOut, CurvesCutAtKnots, PiecesAreTheCurve, PiecesCoverTheCurve, PathDataWritten, ExportsDetermined, EveryParameterHasItsSpan, ComputedPointNearExact, CutsReported, CrossingsReported, InsertionKeepsCurve, RemovalKeepsCurve, RemovalDetermined, CompactionKeepsCurve, CompactionDetermined, EditedCurvePasses, JoinedCurvePasses, JoinedCurveIsHermite, RecordsGoRound, FaultIsLeftmost, PlacesToldWithFaults, ReadingIsExact, JobsReadBack, BurstsReadAsJoined, BurstsAreKept, ProgramWritesItsText, ClearMeansClear, WorkedCasesHold}
 
 pub check-gives-lowest-row : CheckGivesLowestRow
 check-gives-lowest-row = check-answers
@@ -127,6 +134,7 @@ refusals-answer-first = (
   read-answers,
   job-answers,
   burst-answers-first,
+  svg-answers-first,
 )
 
 pub results-handed-over : ResultsHandedOver
@@ -178,3 +186,15 @@ bursts-read-as-joined = (fed-reads-as-joined, fed-is-held, end-determined, fed-h
 
 pub bursts-are-kept : BurstsAreKept
 bursts-are-kept = (burst-is-kept, short-list-kept, empty-burst-changes-nothing)
+
+pub curves-cut-at-knots : CurvesCutAtKnots
+curves-cut-at-knots = (cuts-counted, cut-passes, cut-keeps-curve, (cut-full, cut-sizes, cut-knots), cut-number-is)
+
+pub pieces-are-the-curve : PiecesAreTheCurve
+pieces-are-the-curve = piece-is-curve
+
+pub pieces-cover-the-curve : PiecesCoverTheCurve
+pieces-cover-the-curve = ((piece-knots, spans-follow), piece-points, pieces-meet, pieces-cover-domain)
+
+pub path-data-written : PathDataWritten
+path-data-written = (svg-is-path-data, (svg-within-most, most-is-reached), success-writes-text, refusal-writes-nothing)

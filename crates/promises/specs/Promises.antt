@@ -47,6 +47,11 @@ use Rattle.clear_is_clear.specs.Clear.{ClearIsClear, EveryClampTold, ElseListed
 use Rattle.worked.specs.Case.{AllHold}
 use Rattle.worked.specs.Worked.{cases}
 use Rattle.joining_exact.specs.JoinedCurve.{JoinPasses, JoinIsHermite, JoinMeetsPoints, JoinHasEntries, MeetingPointsInserted, BothAreOneCurve}
+use Rattle.cut_whole.specs.Sentences.{CutPasses, CutsCounted, CutFull, CutSizes, CutKnots, SpansFollow, PieceKnots, CutNumberIs}
+use Rattle.pieces_exact.specs.PieceCurve.{CutKeepsCurve, PieceIsCurve, PiecePoints, PiecesMeet, PiecesCoverDomain}
+use Rattle.path_data.specs.Sentences.{MostIsReached}
+use Rattle.svg_whole.specs.Sentences.{SvgIsPathData, SvgWithinMost}
+use Rattle.svg_whole.specs.Outcome.{SvgAnswersFirst, SuccessWritesText, RefusalWritesNothing}
 use Rattle.knots_exact.specs.SameCurve.{InsertKeepsCurve, RemoveKeepsCurve, CompactKeepsCurve, EditingPasses}
 
 -- "Numbers of refusal": the check answers n exactly when row n applies and no lower row does, and 0 exactly when no row does
@@ -58,7 +63,7 @@ CheckGivesLowestRow = (m : ℕ) (ts : List ℕ) (xs ys : List ℤ) → AnswersFi
 abbrev pub RefusalsAnswerFirst : Type 0
 RefusalsAnswerFirst =
     (EightExactly × AcceptedExactly × CurveJudgedFirst) × InsertionAnswersFirst × RemovalAnswersFirst × CompactionAnswersFirst
-    × JoinAnswersFirst × ListAnswersFirst × WriteAnswersFirst × ReadAnswersFirst × JobAnswersFirst × BurstAnswersFirst
+    × JoinAnswersFirst × ListAnswersFirst × WriteAnswersFirst × ReadAnswersFirst × JobAnswersFirst × BurstAnswersFirst × SvgAnswersFirst
 
 -- "Numbers of refusal": 15 exactly where some list has fewer places than its result; a result stands in front of what was there before, entry for
 -- entry; a refusal leaves all three lists as they were
@@ -156,6 +161,26 @@ JoinedCurveMeetsPoints = JoinMeetsPoints × JoinHasEntries
 -- and both are one exact curve
 abbrev pub MeetingPointsDropOut : Type 0
 MeetingPointsDropOut = MeetingPointsInserted × BothAreOneCurve
+
+-- "Out to SVG": each inner knot is inserted as often as it lacks of m times, from left to right, and no other value; the cut curve passes the check, is the
+-- same exact curve, and has its knots, by their index, and so many points; the first insertion that fails gives the number, 10 or 11 and no other
+abbrev pub CurvesCutAtKnots : Type 0
+CurvesCutAtKnots = CutsCounted × CutPasses × CutKeepsCurve × (CutFull × CutSizes × CutKnots) × CutNumberIs
+
+-- "Out to SVG": for every curve that is cut and every fraction between the two knots of a piece, both ends included, the Bezier point of the piece's own points
+-- is the exact point of the curve, on both axes
+abbrev pub PiecesAreTheCurve : Type 0
+PiecesAreTheCurve = PieceIsCurve
+
+-- "Out to SVG": there is a piece for each span that is not empty, between its two knots; a piece has m + 1 points of the cut curve and (0,0) in the other places;
+-- neighbours meet, and all together go from end to end of the domain
+abbrev pub PiecesCoverTheCurve : Type 0
+PiecesCoverTheCurve = (PieceKnots × SpansFollow) × PiecePoints × PiecesMeet × PiecesCoverDomain
+
+-- "Out to SVG": what is written is of the grammar of path data and at most 18,431 bytes long, which some pieces need; it stands in front of what the list held,
+-- and a refusal leaves the list as it was
+abbrev pub PathDataWritten : Type 0
+PathDataWritten = SvgIsPathData × (SvgWithinMost × MostIsReached) × SuccessWritesText × RefusalWritesNothing
 
 -- "The record on disk": reading what was written gives the curve back, writing what was read gives the bytes back, bytes that read to one
 -- curve are equal, and a record has at most 10,261 bytes
