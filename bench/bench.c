@@ -1,6 +1,6 @@
 /*
  * The proved library against the same calls written plainly in C, in one process on the same inputs. Both must give the same numbers, lists and
- * places, on broken records and jobs too; then each is timed, the two in turn, and the least time of all rounds counts (2,000, or as many as two
+ * places, on broken records and jobs and on random curves as path data too; then each is timed, the two in turn, and the least time of all rounds counts (2,000, or as many as two
  * seconds hold). Prints nanoseconds a call, the ratio, and how the library's time grows with the number of points; then what it takes to feed the
  * bytes of the longest job in few bursts and in many.
  * Build and run: bench/run.sh
@@ -12,13 +12,14 @@
 #include <time.h>
 
 #include "plain.h"
+#include "random_paths.h"
 #include "tsaghnobir.h"
 
 enum { ROUNDS = 2000, DEGREE = 3, STEP = 6, PARAMETERS = 16, SIZES = 4, RADIUS = 150, CLAMPS = 8, SPLITS = 7 };
 
-enum call { CHECK, POINT, CARRYING, SPANS, INSERT, JOIN, THROUGH, WRITE, READ, COMPACT, FEED, CALLS, BURSTS };
+enum call { CHECK, POINT, CARRYING, SPANS, INSERT, JOIN, THROUGH, WRITE, SVG, READ, COMPACT, FEED, CALLS, BURSTS };
 
-static const char *const names[CALLS] = {"check", "point", "carrying", "spans", "insert", "join", "through", "write", "read", "compact", "feed"};
+static const char *const names[CALLS] = {"check", "point", "carrying", "spans", "insert", "join", "through", "write", "svg", "read", "compact", "feed"};
 static const size_t sizes[SIZES] = {4, 64, 256, 1024};
 
 /* How many bursts, and of how many bytes; the last may be shorter. Each comes behind the ones before it, or each to the front of the list. */
@@ -40,9 +41,10 @@ static const struct split splits[SPLITS] = {
 };
 
 struct input {
-    size_t points, inserted_points, spline_points, length;
+    size_t points, inserted_points, uncut_points, spline_points, length;
     uint16_t knots[TSB_KNOTS_MOST];
     uint16_t inserted_knots[TSB_KNOTS_MOST];
+    uint16_t uncut_knots[TSB_KNOTS_MOST];
     int32_t xs[TSB_POINTS_MOST], ys[TSB_POINTS_MOST];
     int32_t slack_xs[TSB_POINTS_MOST], slack_ys[TSB_POINTS_MOST];
     uint16_t params[TSB_SPLINE_POINTS_MOST];
@@ -60,7 +62,7 @@ struct output {
     size_t place, count;
     uint16_t knots[TSB_KNOTS_MOST], lows[TSB_POINTS_MOST], highs[TSB_POINTS_MOST];
     int32_t xs[TSB_POINTS_MOST], ys[TSB_POINTS_MOST];
-    uint8_t bytes[TSB_RECORD_MOST];
+    uint8_t bytes[TSB_SVG_MOST]; /* of a record or of path data */
     size_t clamp_count, received;
     int32_t clamps[4 * TSB_CLAMPS_MOST];
     uint8_t work[TSB_WORK_MOST];
@@ -75,6 +77,7 @@ static struct output by_library, by_plain;
 #define GIVEN DEGREE, in.knots, in.points + DEGREE + 1, in.xs, in.points, in.ys, in.points
 #define FOR_INSERTION \
     DEGREE, in.inserted_knots, in.inserted_points + DEGREE + 1, in.xs, in.inserted_points, in.ys, in.inserted_points
+#define UNCUT DEGREE, in.uncut_knots, in.uncut_points + DEGREE + 1, in.xs, in.uncut_points, in.ys, in.uncut_points
 #define SLACK DEGREE, in.knots, in.points + DEGREE + 1, in.slack_xs, in.points, in.slack_ys, in.points
 #define SPLINE \
     in.params, in.spline_points, in.px, in.spline_points, in.py, in.spline_points, in.tx, in.spline_points, in.ty, in.spline_points
@@ -122,6 +125,7 @@ FEEDING(plain)
             case JOIN: refusal |= side##_join(SPLINE, PLACES, &out->count); break;                                          \
             case THROUGH: refusal |= side##_join_through_points(SPLINE, PLACES, &out->count); break;                        \
             case WRITE: refusal |= side##_write_record(GIVEN, out->bytes, TSB_RECORD_MOST, &out->count); break;             \
+            case SVG: refusal |= side##_svg(UNCUT, out->bytes, TSB_SVG_MOST, &out->count); break;                           \
             case READ: refusal |= side##_read_record(in.bytes, in.length, PLACES, &out->degree, &out->count, &out->place); break; \
             case COMPACT: refusal |= side##_compact(SLACK, PLACES, &out->count, &out->place); break;                        \
             case FEED: refusal |= feed_##side(out); break;                                                                  \
@@ -142,7 +146,7 @@ static uint32_t dice(void)
     return dice_state >> 8;
 }
 
-/* Multiples of 36, so that a knot between two others that stand 6 apart goes in with whole points. */
+/* Multiples of 36, so that a knot between two others that stand 6 apart goes in with whole points, and that the curve can be cut at all its knots. */
 static int32_t coordinate(void)
 {
     return ((int32_t)(dice() % 14001) - 7000) * 36;
@@ -179,8 +183,10 @@ static void fill_input(size_t points)
     in.points = points;
     in.inserted_points = points < TSB_POINTS_MOST ? points : TSB_POINTS_MOST - 1;
     in.spline_points = (points - 1) / 3 + 1; /* for both joinings; joining through points gives as many points */
+    in.uncut_points = (points - 1) / 3 + DEGREE; /* as many pieces as spline points join to, so as many points when cut */
     fill_knots(in.knots, points);
     fill_knots(in.inserted_knots, in.inserted_points);
+    fill_knots(in.uncut_knots, in.uncut_points);
     for (size_t i = 0; i < points; i++) {
         in.xs[i] = coordinate();
         in.ys[i] = coordinate();
@@ -354,6 +360,10 @@ int main(void)
 {
     static double library[CALLS][SIZES], plain[CALLS][SIZES];
 
+    if (!random_paths_agree(dice)) {
+        printf("the two sides differ on a random curve as path data\n");
+        return 1;
+    }
     for (size_t s = 0; s < SIZES; s++) {
         fill_input(sizes[s]);
         if (s == 0 && (!agree_on_broken(READ, &in.length) || !agree_on_broken(FEED, &in.job_length))) {

@@ -27,6 +27,7 @@ uint32_t plain_spans(
     CURVE, int32_t low_x, int32_t high_x, int32_t low_y, int32_t high_y, uint32_t radius,
     uint16_t *restrict lows, size_t lows_len, uint16_t *restrict highs, size_t highs_len, size_t *restrict count);
 uint32_t plain_write_record(CURVE, uint8_t *restrict out, size_t out_len, size_t *restrict length);
+uint32_t plain_svg(CURVE, uint8_t *restrict out, size_t out_len, size_t *restrict length);
 uint32_t plain_read_record(
     const uint8_t *bytes, size_t bytes_len, LISTS, uint32_t *restrict degree, size_t *restrict points, size_t *restrict place);
 uint32_t plain_read_job(const uint8_t *bytes, size_t bytes_len, JOB);
