@@ -52,8 +52,9 @@
  *   - nothing else reads or writes these places while the call runs;
  *   - a list of length 0 may be a null pointer; any other may not;
  *   - a length counts entries, not bytes, and a list is at most 2^63 - 1 bytes;
- *   - the stack reaches: under 272 bytes for most calls, under 11 KiB for tsb_remove, tsb_compact, both readers and
- *     tsb_feed_end, each of which holds a curve while it works. docs/BENCHMARKS.md has the bytes of each call.
+ *   - the stack reaches: under 272 bytes for most calls, under 1056 for tsb_svg, which cuts a piece at a time, under
+ *     11 KiB for tsb_remove, tsb_compact, both readers and tsb_feed_end, each of which holds a curve while it works.
+ *     docs/BENCHMARKS.md has the bytes of each call.
  */
 #ifndef TSAGHNOBIR_H
 #define TSAGHNOBIR_H
@@ -78,6 +79,8 @@
  * TSB_WORK_MOST = 11482 places, five more. A job has the field of tag 6 between its record and its clamps. Without it, it is
  * refused by 19, or by 16 where it ends there, so jobs made before have to be made again; records have not changed.
  * A radius above 4096 is refused by 22, which is new. The stack of tsb_spans is 264 bytes, where it was 232.
+ * Version 6: tsb_svg, for a curve as path data of SVG, and TSB_SVG_MOST. Nothing else changed: a caller of version 5 has
+ * nothing to do.
  */
 #define TSB_API_VERSION 6
 
@@ -106,8 +109,8 @@ enum tsb_refusal {
     TSB_RANGE = 7,          /* a coordinate or a tangent lies beyond +-262144 */
     TSB_PARAMETER = 8,      /* the parameter lies outside the curve's domain */
     TSB_INSERTION = 9,      /* insertion: the value is not strictly between the ends, or stands there degree times already */
-    TSB_FULL = 10,          /* insertion: the curve has 1024 points already */
-    TSB_NOT_WHOLE = 11,     /* inserting or joining: a new coordinate would fall between two grid lines */
+    TSB_FULL = 10,          /* insertion, path data: the curve to insert into has 1024 points already */
+    TSB_NOT_WHOLE = 11,     /* inserting, joining, path data: a new coordinate would fall between two grid lines */
     TSB_NOT_INNER = 12,     /* removal: the value is no knot strictly between the ends */
     TSB_NOT_REMOVABLE = 13, /* removal: no whole points within range give the old curve with the value inserted again */
     TSB_RECTANGLE = 14,     /* a rectangle's low side lies above its high side, or a side beyond +-262144 */
@@ -277,8 +280,21 @@ uint32_t tsb_write_record(
     size_t *TSB_RESTRICT length);
 
 /*
- * The curve as path data of SVG: the number of bytes goes to *length.
- * Refused by 1 to 7, then 10 or 11, then 15.
+ * The curve as path data of SVG 2, the text that a drawing holds as the attribute d of a path: "M x y", the curve's first
+ * point, and then for each piece, from left to right, a space and "L x y", "Q x y x y" or "C x y x y x y", by degree 1, 2
+ * or 3. So four points of degree 3 may give
+ *
+ *   M 0 0 C 0 8 8 8 8 0
+ *
+ * The numbers are whole, with a minus sign or none, and single spaces part them. They are grid steps, y upward, as in
+ * the lists: a drawing, whose y runs downward, turns them over, by transform="scale(1 -1)" say. The bytes go to the front
+ * of `out`, without a newline or a zero byte at the end, and their number to *length; TSB_SVG_MOST places are always enough.
+ *
+ * A piece is the curve between two different neighbouring knots, as a Bezier curve: exactly the curve, at every parameter.
+ * Pieces come from inserting the knots between the ends, from left to right, each until it stands degree times, as by
+ * tsb_insert; the caller's own curve is not changed. The time grows in proportion to the lists.
+ * Refused by 1 to 7. Then by the first insertion that fails: by 10 where the curve has 1024 points by then, else by 11
+ * where a new coordinate, on either axis, would not be whole. Then 15.
  */
 uint32_t tsb_svg(
     uint32_t degree, const uint16_t *knots, size_t knots_len,

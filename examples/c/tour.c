@@ -1,7 +1,7 @@
 /*
  * A tour of the library from C: the point on a curve, a knot inserted and removed, all knots removed that can go,
- * spline points joined by both calls, the spans where a cutter may meet a clamp, a record written and read back, records
- * and jobs that are broken, with the place where they break, jobs that come in bursts, and some refusals.
+ * spline points joined by both calls, the spans where a cutter may meet a clamp, curves as path data of SVG, a record written
+ * and read back, records and jobs that are broken, with the place where they break, jobs that come in bursts, and some refusals.
  * Build and run: examples/c/build.sh run
  */
 #include <stddef.h>
@@ -93,6 +93,19 @@ static void print_compacted(const struct curve *c)
         printf(" refused %u\n", (unsigned)refusal);
 }
 
+/* Path data has no zero byte at its end: its length says how much to print. */
+static void print_path(const struct curve *c, size_t places)
+{
+    static uint8_t path[TSB_SVG_MOST];
+    size_t length;
+    uint32_t refusal = tsb_svg(GIVEN(*c), path, places, &length);
+    printf("path data in %u places:", (unsigned)places);
+    if (refusal == TSB_OK)
+        printf(" %.*s\n", (int)length, (const char *)path);
+    else
+        printf(" refused %u\n", (unsigned)refusal);
+}
+
 static void print_joined(const char *name, uint32_t refusal)
 {
     result.degree = 3;
@@ -104,15 +117,17 @@ static void print_joined(const char *name, uint32_t refusal)
         printf(" refused %u\n", (unsigned)refusal);
 }
 
-/* One curve without its meeting point among the control points, and with it: a knot inserted there brings it back. */
+/* One curve without its meeting point among the control points, and with it: a knot inserted there brings it back, as path data does. */
 static void print_joined_by_both(const struct spline *s)
 {
     print_joined("by default", tsb_join(SPLINE(*s), PLACES(result), &result.points));
     kept = result;
     print_point_at(&kept, s->params[1]);
     print_inserted(&kept, s->params[1]);
+    print_path(&kept, TSB_SVG_MOST);
     print_joined("through points", tsb_join_through_points(SPLINE(*s), PLACES(result), &result.points));
     print_point_at(&result, s->params[1]);
+    print_path(&result, TSB_SVG_MOST);
 }
 
 static void print_spans(const struct curve *c, int32_t low_x, int32_t high_x, int32_t low_y, int32_t high_y, uint32_t radius)
@@ -305,12 +320,16 @@ int main(void)
     tsb_carrying(GIVEN(a), 4, &first);
     printf("carried at 4 by points %u to %u\n", (unsigned)first, (unsigned)(first + a.degree));
     print_clamps(&a);
+    print_path(&a, TSB_SVG_MOST);
+    print_path(&a, 19); /* just long enough */
+    print_path(&a, 18);
     print_written_and_read(&a);
     print_jobs(&a);
 
     printf("curve B: check %u\n", (unsigned)tsb_check(GIVEN(b)));
     print_point_at(&b, 1);
     print_point_at(&b, 2);
+    print_path(&b, TSB_SVG_MOST); /* its pieces meet at the point at 2 */
     print_inserted(&b, 1);
     kept = result; /* a result list never shares memory with an input */
     print_compacted(&kept);
@@ -322,6 +341,8 @@ int main(void)
     print_removed(&b, 3);
     b.xs[2] = 10;
     print_removed(&b, 2);
+    b.xs[2] = 9;
+    print_path(&b, TSB_SVG_MOST); /* they would meet at x = 6.5 */
 
     print_joined("from 0 to 12", tsb_join(SPLINE(two), PLACES(result), &result.points));
     two.params[1] = 4;

@@ -11,9 +11,10 @@ TOP = pathlib.Path(__file__).resolve().parents[2]
 sys.dont_write_bytecode = True
 PAGE = TOP / "docs" / "BENCHMARKS.md"
 HEADER = TOP / "include" / "tsaghnobir.h"
-# what the header tells of the stack: these calls hold a curve
+# what the header tells of the stack: of most calls, of the one that cuts pieces, and of those that hold a curve
+MOST = 272
 HOLDERS = {"tsb_remove", "tsb_compact", "tsb_read_record", "tsb_read_job", "tsb_feed_end"}
-MOST, MOST_OF_HOLDERS = 272, 11 * 1024
+MOST_OF = {"tsb_svg": 1056, **dict.fromkeys(HOLDERS, 11 * 1024)}
 
 
 def written():
@@ -46,7 +47,7 @@ def main():
     for name in exports:
         if told.get(name) != seen.get(name):
             faults.append("%s: %s bytes told, %s seen on a painted stack" % (name, told.get(name), seen.get(name)))
-        elif told[name] >= (MOST_OF_HOLDERS if name in HOLDERS else MOST):
+        elif told[name] >= MOST_OF.get(name, MOST):
             faults.append("%s: %d bytes, more than the header tells" % (name, told[name]))
     print("\n".join(faults + ["the stack of %d exports told and seen, and the program's, %d faults" % (len(exports), len(faults))]))
     return 1 if faults else 0
