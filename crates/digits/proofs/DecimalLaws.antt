@@ -49,3 +49,19 @@ decimal-short (suc most) n h =
     by short true e = omega (arith, ap length (decimal-one n (ltb-true n 10 e)))
     by short false e =
         omega (arith, decimal-longer n (ltb-false n 10 e), short (ltb-false n 10 e))
+
+-- of one digit, of two and of three
+pub one-digit : (n : ℕ) → n < 10 → length (decimal n) ≡ 1
+one-digit n h = ap length (decimal-one n h)
+
+pub two-digits : (n : ℕ) → 10 ≤ n → n < 100 → length (decimal n) ≡ 2
+two-digits n h k = omega (arith, decimal-longer n h, one-digit (n / 10) (omega arith))
+
+pub three-digits : (n : ℕ) → 100 ≤ n → n < 1000 → length (decimal n) ≡ 3
+three-digits n h k = omega (arith, decimal-longer n (omega arith), two-digits (n / 10) (omega arith) (omega arith))
+
+-- three digits more than the thousandth part has
+pub three-longer : (n : ℕ) → 1000 ≤ n → length (decimal n) ≡ length (decimal (n / 1000)) + 3
+three-longer n h =
+    let tenth : n / 10 / 10 / 10 ≡ n / 1000 = omega arith in
+    omega (arith, decimal-longer n (omega arith), decimal-longer (n / 10) (omega arith), decimal-longer (n / 10 / 10) (omega arith), ap (λ (k : ℕ). length (decimal k)) tenth)

@@ -3,3 +3,4 @@ pub mod Controls
 pub mod DecimalLaws
 pub mod PutLaws
 pub mod ValueLaws
+mod LastFirstLaws

@@ -1,5 +1,6 @@
 // Bytes and the digits of a number, put into a lent list from a place on.
 ghost use mathlib.Core.List.{_∷_, []};
+ghost use mathlib.Core.Path.{_≡_};
 ghost use Prim.Native.Nat.{_+_, _≤_, _<_};
 ghost use lib.ListN.{length};
 ghost use Rattle.digits.specs.Decimal.{decimal};
@@ -27,14 +28,38 @@ pub fn put_bytes(out: &mut [u8], at: usize, text: &[u8]) -> usize
     at + text.len()
 }
 
-// Puts a number's digits.
+// How many digits a number has; three at a time, since a division takes long.
+pub fn digit_count(number: u32) -> usize
+    ensures answer { λ r. ⌜ r ≡ length (decimal number) ⌝ }
+{
+    let mut rest = number;
+    let mut count = 1;
+    while 1000 <= rest {
+        rest /= 1000;
+        count += 3;
+    }
+    if 100 <= rest {
+        return count + 2;
+    }
+    if 10 <= rest {
+        return count + 1;
+    }
+    count
+}
+
+// Puts a number's digits, the last one first.
 pub fn put_decimal(out: &mut [u8], at: usize, number: u32) -> usize
     requires { ⌜ at + length (decimal number) ≤ length (now out) ⌝ }
     ensures result { λ r. ⌜ Put (now (out .entry)) at (decimal number) (now (out .exit)) r ⌝ }
 {
-    if number < 10 {
-        return put_byte(out, at, (48 + number) as u8);
+    let end = at + digit_count(number);
+    let mut place = end - 1;
+    let mut rest = number;
+    while 10 <= rest {
+        out[place] = (48 + rest % 10) as u8;
+        place -= 1;
+        rest /= 10;
     }
-    let next = put_decimal(out, at, number / 10);
-    put_byte(out, next, (48 + number % 10) as u8)
+    out[place] = (48 + rest) as u8;
+    end
 }
