@@ -138,12 +138,23 @@ FEEDING(plain)
 REPEAT(tsb)
 REPEAT(plain)
 
-static uint32_t dice_state = 1;
+static uint32_t thrown(uint32_t *state)
+{
+    *state = *state * 1664525u + 1013904223u;
+    return *state >> 8;
+}
 
 static uint32_t dice(void)
 {
-    dice_state = dice_state * 1664525u + 1013904223u;
-    return dice_state >> 8;
+    static uint32_t state = 1;
+    return thrown(&state);
+}
+
+/* Random paths have dice of their own, so that the curves that are timed do not depend on them. */
+static uint32_t dice_of_paths(void)
+{
+    static uint32_t state = 1;
+    return thrown(&state);
 }
 
 /* Multiples of 36, so that a knot between two others that stand 6 apart goes in with whole points, and that the curve can be cut at all its knots. */
@@ -360,7 +371,7 @@ int main(void)
 {
     static double library[CALLS][SIZES], plain[CALLS][SIZES];
 
-    if (!random_paths_agree(dice)) {
+    if (!random_paths_agree(dice_of_paths)) {
         printf("the two sides differ on a random curve as path data\n");
         return 1;
     }

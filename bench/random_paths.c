@@ -10,7 +10,7 @@
 #include "plain.h"
 #include "tsaghnobir.h"
 
-enum { CURVES = 6000, LONG_ONES = 16 };
+enum { CURVES = 20000, LONG_ONES = 4 };
 
 /* What has to come up: 0, 1 to 7, 10, 11 and 15. */
 #define OUTCOMES (0xffu | 1u << TSB_FULL | 1u << TSB_NOT_WHOLE | 1u << TSB_ROOM)
@@ -36,12 +36,12 @@ static size_t values_of(size_t m, int few, uint32_t (*dice)(void))
     return few ? dice() % 9 : (TSB_POINTS_MOST - 1) / m - 3 + dice() % 6;
 }
 
-/* Evenly spaced values or not, each as often as the dice say: always once, always m times, or as it comes. */
+/* Evenly spaced values or not, near each other or as far apart as they can be, each as often as the dice say: always once, always m times, or as it comes. */
 static void fill_knots(size_t m, size_t values, uint32_t (*dice)(void))
 {
-    uint32_t gap = dice() % 2 ? 1 : 1 + dice() % 16, habit = dice() % 3;
+    uint32_t widest = TSB_KNOT_MOST / (uint32_t)(values + 1), gap = dice() % 2 ? 1 + dice() % 8 : widest - dice() % 8, habit = dice() % 3;
     int even = dice() % 4 != 0;
-    uint16_t value = (uint16_t)(dice() % 3000), *at = curve.knots;
+    uint16_t value = (uint16_t)(dice() % (TSB_KNOT_MOST - (uint32_t)(values + 1) * gap + 1)), *at = curve.knots;
     for (size_t k = 0; k < values + 2; k++) {
         size_t times = k == 0 || k > values ? m + 1 : habit == 0 ? 1 : habit == 1 ? m : 1 + dice() % m;
         while (times-- > 0)
@@ -63,10 +63,10 @@ static void fill_points(size_t m, uint32_t (*dice)(void))
     }
 }
 
-/* One thing changed, in two curves of three. */
+/* One thing changed, in two curves of three; a point is one of the last, where a long curve is full, or any. */
 static void change_something(uint32_t (*dice)(void))
 {
-    size_t point = dice() % curve.xs_len, knot = dice() % curve.knots_len;
+    size_t last = curve.xs_len - 1, point = dice() % 2 ? last - dice() % (last < 8 ? last : 8) : dice() % curve.xs_len, knot = dice() % curve.knots_len;
     switch (dice() % 24) {
     case 0: curve.degree = dice() % 6; break;
     case 1: curve.ys_len--; break;
