@@ -1,8 +1,8 @@
 /*
  * The proved library against the same calls written plainly in C, in one process on the same inputs. Both must give the same numbers, lists and
- * places, on broken records and jobs and on random curves as path data too; then each is timed, the two in turn, and the least time of all rounds counts (2,000, or as many as two
- * seconds hold). Prints nanoseconds a call, the ratio, and how the library's time grows with the number of points; then what it takes to feed the
- * bytes of the longest job in few bursts and in many.
+ * places, on broken records and jobs and on random curves as path data too; then each is timed, the two in turn, and the least time of all rounds
+ * counts (2,000, or as many as two seconds hold). Prints nanoseconds a call, the ratio, and how the library's time grows with the number of points;
+ * then what it takes to feed the bytes of the longest job in few bursts and in many.
  * Build and run: bench/run.sh
  */
 #include <stddef.h>

@@ -14,8 +14,8 @@ struct axis {
 };
 
 /*
- * Inserts v, which stands `times` times, into the span from `low` to v, where low stands m times: the points behind the first ones move towards their left
- * neighbours, and far[k] is the knot that tells how far. 0 where one of them would not be whole.
+ * The knot v, which stands `times` times, goes once more into the span from `low` to v, where low stands m times: the last points of the row move towards
+ * their left neighbours, the point k by as much as the knot far[k] says, and the last of them is kept for the next row. 0 where one would not be whole.
  */
 static int insert(struct axis *axis, size_t m, const uint16_t *far, int64_t low, int64_t v, size_t times, size_t next_at)
 {
@@ -29,7 +29,7 @@ static int insert(struct axis *axis, size_t m, const uint16_t *far, int64_t low,
     return 1;
 }
 
-/* The value behind the span i stands s times: goes in until it stands m times. */
+/* The value at the end of the span i stands s times, and goes in until it stands m times. */
 static uint32_t cut(struct axis *x, struct axis *y, size_t m, const uint16_t *knots, size_t i, size_t s, size_t *points)
 {
     for (size_t times = s; times < m; times++) {
@@ -43,7 +43,7 @@ static uint32_t cut(struct axis *x, struct axis *y, size_t m, const uint16_t *kn
     return TSB_OK;
 }
 
-/* To the next span: the end of this one, what the insertions moved, and the s points of the list that come behind the span i. */
+/* The row of the next span: the end of this one, the points that were kept, and the s points of the list that come behind the span i. */
 static void turn(struct axis *axis, size_t m, size_t i, size_t s)
 {
     axis->next[0] = axis->row[m];

@@ -282,17 +282,18 @@ uint32_t tsb_write_record(
 /*
  * The curve as path data of SVG 2, the text that a drawing holds as the attribute d of a path: "M x y", the curve's first
  * point, and then for each piece, from left to right, a space and "L x y", "Q x y x y" or "C x y x y x y", by degree 1, 2
- * or 3. So four points of degree 3 may give
+ * or 3. One piece of degree 3 may give
  *
  *   M 0 0 C 0 8 8 8 8 0
  *
- * The numbers are whole, with a minus sign or none, and single spaces part them. They are grid steps, y upward, as in
- * the lists: a drawing, whose y runs downward, turns them over, by transform="scale(1 -1)" say. The bytes go to the front
- * of `out`, without a newline or a zero byte at the end, and their number to *length; TSB_SVG_MOST places are always enough.
+ * Numbers are whole, with a minus sign or none, and single spaces part them. They are grid steps, y upward, as in the
+ * lists: a drawing, whose y runs downward, turns the path over, by transform="scale(1 -1)" say. The bytes go to the front
+ * of `out`, without a newline or a zero byte at the end, and their number to *length; TSB_SVG_MOST places are always
+ * enough.
  *
- * A piece is the curve between two different neighbouring knots, as a Bezier curve: exactly the curve, at every parameter.
- * Pieces come from inserting the knots between the ends, from left to right, each until it stands degree times, as by
- * tsb_insert; the caller's own curve is not changed. The time grows in proportion to the lists.
+ * A piece lies between two different neighbouring knots, and as a Bezier curve it is exactly the curve there. Pieces come
+ * from inserting the knots between the ends, from left to right, each until it stands degree times, as tsb_insert does it;
+ * the caller's own curve is not changed. The time grows in proportion to the lists.
  * Refused by 1 to 7. Then by the first insertion that fails: by 10 where the curve has 1024 points by then, else by 11
  * where a new coordinate, on either axis, would not be whole. Then 15.
  */
