@@ -13,7 +13,7 @@ use Rattle.refusal.specs.Numbers.{leftOverRefused}
 use Rattle.fields.specs.Bytes.{Octets}
 use Rattle.format.specs.Format.{form1, recordBytes, IsRecord}
 use Rattle.format.specs.RecordPlaces.{recordEnd}
-use Rattle.format.proofs.InjectiveLaws.{form1-injective}
+use Rattle.format.proofs.InjectiveLaws.{Same, form1-injective}
 use Rattle.fault.specs.Fault.{FileKind, WholeFields, Fault}
 use Rattle.fault.specs.Told.{FaultsTold}
 use Rattle.fault.specs.Kinds.{loneRecords}
@@ -80,6 +80,14 @@ fields-whole P whole bytes d =
     let y = d .next .next .next in
     then-fields d (then-fields (d .next) (then-fields (d .next .next) (then-fields y (whole (y .rest) (y .next)))))
 
+pub record-whole : (bytes : List ℕ) → IsRecord form1 bytes → WholeFields bytes
+record-whole bytes w = fields-whole (nothing .Full) (row-fields (yRule .tag) (lengthOk yRule) 0) bytes (in-fields (nothing .Full) refl bytes w)
+
+-- the lists that bytes are the record of are one
+pub one-record : {bytes : List ℕ} (w v : IsRecord form1 bytes) → Same (w .m) (w .c) [] (v .m) (v .c) []
+one-record w v =
+    form1-injective (w .m) (w .c) [] (v .m) (v .c) [] (w .storable) (v .storable) (ap (λ (l : List ℕ). l ++ []) (sym (w .same) ∙ v .same))
+
 module _ (bytes : List ℕ) (octets : Octets bytes) (found : Break) where
   behind-sound : (k x y : ℕ) → recordLayout bytes ≡ Sound k x y → (b : Bool) → leb (length bytes) (recordEnd k x y) ≡ b
       → cond b (Sound k x y) (Unsound (leftOverAt (recordEnd k x y))) ≡ Unsound found → BreaksFrom (recordThen nothing) bytes 0 found
@@ -108,15 +116,12 @@ records-told =
       never = λ bytes number place fault. file-no-fault loneRecords bytes fault;
       one = λ bytes number place n p fault found. one-fault loneRecords bytes fault found;
       over = λ bytes at inside full.
-          left-over-there loneRecords bytes at inside full full (whole (take at bytes) full) (longer (take at bytes) full);
+          left-over-there loneRecords bytes at inside full full (record-whole (take at bytes) full) (longer (take at bytes) full);
     }
   where
     by : (bytes : List ℕ) → Octets bytes → (l : Layout) → wholeRecord bytes ≡ l → IsRecord form1 bytes ⊎ ((number : ℕ) × (place : ℕ) × Fault loneRecords bytes number place)
     by bytes octets (Sound k x y) e = inl (record-of-sound bytes octets k x y e)
     by bytes octets (Unsound found) e = inr (found .number, found .place, record-fault bytes octets found e)
-
-    whole : (bytes : List ℕ) → IsRecord form1 bytes → WholeFields bytes
-    whole bytes w = fields-whole (nothing .Full) (row-fields (yRule .tag) (lengthOk yRule) 0) bytes (in-fields (nothing .Full) refl bytes w)
 
     longer : (front : List ℕ) → IsRecord form1 front → (b : ℕ) (rest : List ℕ) → IsRecord form1 (front ++ b ∷ rest) → ⊥
     longer front w b rest v =

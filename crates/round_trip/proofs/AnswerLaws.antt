@@ -40,7 +40,15 @@ module _ {A B : Type 0} (done : B → A) (refused : ℕ → A) where
       by true t same = (eqb-true number 0 t, same)
       by false t same = absurd (apart number same)
 
-  -- nor is such an answer anything that is neither
+  -- and one that is no value is the refusal
+  pub answered-number : (a : A) → ((v : B) → a ≡ done v → ⊥) → (number : ℕ) (v : B) → a ≡ answered done refused number v → (number ≡ 0 → ⊥) × (a ≡ refused number)
+  answered-number a apart number v e = by (eqb number 0) refl e
+    where
+      by : (b : Bool) → eqb number 0 ≡ b → a ≡ cond b (done v) (refused number) → (number ≡ 0 → ⊥) × (a ≡ refused number)
+      by true t same = absurd (apart v same)
+      by false t same = (eqb-false number 0 t, same)
+
+  -- nor is an answer anything that is neither
   pub answered-other : (a : A) → ((v : B) → done v ≡ a → ⊥) → ((n : ℕ) → refused n ≡ a → ⊥) → (number : ℕ) (v : B) → answered done refused number v ≡ a → ⊥
   answered-other a apart others number v e = by (eqb number 0) e
     where

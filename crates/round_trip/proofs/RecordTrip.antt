@@ -1,6 +1,6 @@
 -- Records: reading and writing undo each other, and reading has one outcome.
 use mathlib.Core.Bool.{true}
-use mathlib.Core.List.{List, [], _++_}
+use mathlib.Core.List.{List}
 use mathlib.Core.Logic.{_↔_}
 use mathlib.Core.Path.{_≡_, refl, sym, ap, ap₂, _∙_, subst₂}
 use Prim.Native.Nat.{ℕ, _+_, _≤_}
@@ -18,13 +18,13 @@ use Rattle.grid.specs.Check.{Passes}
 use Rattle.grid.proofs.ThenLaws.{checkedThen-passed}
 use Rattle.grid.proofs.SizeLaws.{sizes-of-passes}
 use Rattle.format.specs.Format.{form1, recordBytes, IsRecord}
-use Rattle.format.proofs.InjectiveLaws.{Same, form1-injective}
 use Rattle.format.proofs.SizeLaws.{record-most}
 use Rattle.curve.proofs.HandingLaws.{handedOver-refused}
 use Rattle.fault.specs.Fault.{Fault}
 use Rattle.fault.specs.Kinds.{loneRecords}
 use Rattle.fault.specs.Verdict.{Verdict, numberOf}
 use Rattle.fault.proofs.OneFaultLaws.{one-fault, file-no-fault, fault-refuses}
+use Rattle.breaks.proofs.LoneLaws.{one-record}
 use Rattle.record.specs.Writing.{writeNumber, writeAnswer}
 use Rattle.record.specs.Reading.{recordNumber, readAnswer, RecordComesTo, RecordRead, isRecord, isBroken}
 use Rattle.record.specs.declared.WriteAnswer.the-variants.{Written}
@@ -44,11 +44,6 @@ broken-curve number place m n e = let z : _≡_ {A = ℕ} 0 1 = cc in omega arit
 
 broken-refused : (number place n : ℕ) → Broken number place ≡ Refused n → ⊥
 broken-refused number place n e = let z : _≡_ {A = ℕ} 0 1 = cc in omega arith
-
--- the lists that bytes are the record of are one
-one-record : {bytes : List ℕ} (w v : IsRecord form1 bytes) → Same (w .m) (w .c) [] (v .m) (v .c) []
-one-record w v =
-    form1-injective (w .m) (w .c) [] (v .m) (v .c) [] (w .storable) (v .storable) (ap (λ (l : List ℕ). l ++ []) (sym (w .same) ∙ v .same))
 
 -- whatever bytes come to, the answer and the lists are one
 one-outcome : {bytes : List ℕ} {before : Lists} {s t : Verdict} {m d : ℕ} {c e : Lists} → RecordComesTo bytes before s m c → RecordComesTo bytes before t d e
@@ -82,14 +77,15 @@ number-passes : (m : ℕ) (c before : Lists) → recordNumber m c before ≡ 0 �
 unfolding recordNumber
 number-passes m c before e = checkedThen-zero m (c .knots) (c .xs) (c .ys) _ e .0
 
--- what an answer that is a curve says: the front of the lists passes, and the bytes are its record
-record Stored (bytes : List ℕ) (m : ℕ) (c : Lists) : Type 0 where
-  passes : Passes m (c .knots) (c .xs) (c .ys)
-  same : bytes ≡ recordBytes form1 m c
+-- what an answer that is a curve says: the front of the lists passes and has so many points, and the bytes are its record
+pub record Stored (bytes : List ℕ) (m n : ℕ) (c : Lists) : Type 0 where
+  pub passes : Passes m (c .knots) (c .xs) (c .ys)
+  pub points : length (c .xs) ≡ n
+  pub same : bytes ≡ recordBytes form1 m c
 
 module _ (bytes : List ℕ) (before : Lists) (m n : ℕ) (now : Lists) where
   front-stored : (w : IsRecord form1 bytes) → recordNumber (w .m) (w .c) before ≡ 0 → Curve m n ≡ Curve (w .m) (length (w .c .xs)) → now ≡ handedOver 0 (w .c) before
-      → Stored bytes m (frontOf m n now)
+      → Stored bytes m n (frontOf m n now)
   front-stored w zero e h =
       let isM : m ≡ w .m = cc in
       let isN : n ≡ length (w .c .xs) = cc in
@@ -99,20 +95,20 @@ module _ (bytes : List ℕ) (before : Lists) (m n : ℕ) (now : Lists) where
       lists-same (over-front (w .c .knots) (before .knots) (now .knots) (n + m + 1) (omega (arith, sizes .knots)) (same-knots h))
       (over-front (w .c .xs) (before .xs) (now .xs) n (omega arith) (same-xs h))
       (over-front (w .c .ys) (before .ys) (now .ys) n (omega (arith, sizes .as-many)) (same-ys h)) in
-      subst₂ (Stored bytes) (sym isM) (sym front) (record { passes = p; same = w .same })
+      subst₂ (λ d c. Stored bytes d n c) (sym isM) (sym front) (record { passes = p; points = sym isN; same = w .same })
 
   stored-by : {verdict : Verdict} {d : ℕ} {c : Lists} → RecordComesTo bytes before verdict d c → Curve m n ≡ readAnswer verdict d (length (c .xs))
-      → now ≡ handedOver (numberOf verdict) c before → Stored bytes m (frontOf m n now)
+      → now ≡ handedOver (numberOf verdict) c before → Stored bytes m n (frontOf m n now)
   stored-by (isBroken {number = number} {place = place} f d c) e h = absurd (broken-curve number place m n (sym e))
   stored-by (isRecord w) e h =
       let a = answered-value (Curve (w .m)) Refused (Curve m n) (curve-apart m n) (recordNumber (w .m) (w .c) before) (length (w .c .xs)) e in
       front-stored w (a .0) (a .1) (h ∙ ap (λ (k : ℕ). handedOver k (w .c) before) (a .0))
 
-  read-stored : RecordRead bytes before (Curve m n) now → Stored bytes m (frontOf m n now)
+  pub read-stored : RecordRead bytes before (Curve m n) now → Stored bytes m n (frontOf m n now)
   read-stored read = stored-by (read .comesTo) (read .answers) (read .hands)
 
 -- writing a curve that passes, where there is room
-written : (m : ℕ) (c : Lists) (bytes out : List ℕ) → Stored bytes m c → length bytes ≤ length out
+written : {n : ℕ} (m : ℕ) (c : Lists) (bytes out : List ℕ) → Stored bytes m n c → length bytes ≤ length out
     → (writeAnswer m c out ≡ Written (length bytes)) × (after (writeNumber m c out) (recordBytes form1 m c) out ≡ over bytes out)
 written m c bytes out s room =
     let zero : writeNumber m c out ≡ 0 = write-done m c out (s .passes) (rw (s .same) at room) in

@@ -1,0 +1,5 @@
+-- Why the program writes the text of its input.
+mod Controls
+pub mod DrawnLaws
+pub mod ReadLaws
+pub mod UniqueLaws

@@ -1,0 +1,3 @@
+-- The text of some bytes, and what the program is proved to write.
+pub mod Text
+pub mod Program
