@@ -22,5 +22,4 @@ if [ $# -eq 0 ]; then
         rt staticlib tsaghnobir >&2
     fi
 fi
-# a 32-bit number has ten digits at most, and put_decimal takes a turn for each
-exec python3 bench/stack.py "$objdump" $all digits::put_decimal=10 "$@"
+exec python3 bench/stack.py "$objdump" $all "$@"
