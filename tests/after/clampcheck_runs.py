@@ -8,14 +8,9 @@ Of every job that is handed over at once, tools/job.py explain must tell the num
 comparison itself is tried: programs that print nothing, one fixed text, or every place one too far must be noticed.
 """
 
-import os
 import pathlib
-import re
-import subprocess
 import sys
-import threading
 import time
-from concurrent.futures import ThreadPoolExecutor
 
 TOP = pathlib.Path(__file__).resolve().parents[2]
 sys.dont_write_bytecode = True
@@ -23,6 +18,19 @@ sys.path[:0] = [str(TOP / "tools"), str(TOP / "tests")]
 
 import program  # noqa: E402
 from harness.explained import disagreement  # noqa: E402
+from harness.program_runs import (  # noqa: E402
+    answers_to,
+    damaged,
+    farther,
+    from_file,
+    in_pieces,
+    passing_fixed,
+    unnoticed,
+    whole,
+    without_bytes,
+    wrong_in_words,
+)
+from harness.refused_curves import REFUSED_CURVES  # noqa: E402
 from second_program.broken_cases import broken_jobs  # noqa: E402
 from second_program.broken_radii import broken_radii  # noqa: E402
 from second_program.curve import Curve  # noqa: E402
@@ -33,7 +41,6 @@ from second_program.job_cases import damaged_job, good_job, job_of, longest_job,
 from second_program.random_curves import spoiled_curve  # noqa: E402
 from second_program.record import clampcheck_text  # noqa: E402
 
-TIMEOUT = 40
 MOST_SECONDS = 150
 LONGEST = 11482
 LONGEST_OF_CLAMP = 31713
@@ -46,7 +53,6 @@ clamp 3 may meet 0..4
 """
 NO_BYTES = "refused 16 at 0\n"
 ONE_MORE = "refused 21 at 11482\n"
-MASKS = (0x01, 0x80, 0xFF)
 OTHER_CURVE = Curve(2, [0, 0, 0, 300, 4000, 4000, 4000], [-5, 70000, -262144, 262144], [1000, -1, 65536, 0])
 OTHER = job_of(OTHER_CURVE, [(-70000, -300, 2, 65536), (0, 0, 0, 0)], 300)
 FULL = job_of(CURVE_A, [(9, 12, 0, 4)] * 64)
@@ -58,62 +64,10 @@ def expected(job):
     return clampcheck_text(job)[1]
 
 
-def whole(words, job):
-    """Standard input is a pipe that receives the job at once."""
-    return subprocess.run(words, input=job, stdout=subprocess.PIPE, timeout=TIMEOUT).stdout.decode("ascii")
-
-
-def in_pieces(words, job, size, pause):
-    """Standard input is a pipe that receives the job a few bytes at a time."""
-    child = subprocess.Popen(words, stdin=subprocess.PIPE, stdout=subprocess.PIPE)
-
-    def feed():
-        for at in range(0, len(job), size):
-            os.write(child.stdin.fileno(), job[at : at + size])
-            time.sleep(pause)
-        child.stdin.close()
-
-    feeder = threading.Thread(target=feed)
-    feeder.start()
-    text = child.stdout.read().decode("ascii")
-    feeder.join()
-    child.stdout.close()
-    child.wait(TIMEOUT)
-    return text
-
-
-def from_file(words, path):
-    """Standard input is a file, or something else that can be opened."""
-    descriptor = os.open(path, os.O_RDONLY)
-    try:
-        return subprocess.run(words, stdin=descriptor, stdout=subprocess.PIPE, timeout=TIMEOUT).stdout.decode("ascii")
-    finally:
-        os.close(descriptor)
-
-
-def closed(words):
-    """There is no standard input at all."""
-    ended = subprocess.run(["sh", "-c", 'exec "$@" <&-', "sh", *words], stdout=subprocess.PIPE, timeout=TIMEOUT)
-    return ended.stdout.decode("ascii")
-
-
 def refusals():
     """A job for each number that a job can reach, with the line that is right, worked out by hand."""
-    spoiled = dict(
-        degree=CURVE_A._replace(degree=4),
-        points=Curve(3, CURVE_A.knots, [0, 0, 8], [0, 8, 8]),
-        axes=Curve(3, CURVE_A.knots, [0, 0, 8, 8], [0, 8, 8]),
-        knots=CURVE_A._replace(knots=[0, 0, 0, 0, 4, 4, 4]),
-        falling=CURVE_A._replace(knots=[0, 0, 0, 0, 4, 4, 4, 3]),
-        high=CURVE_A._replace(knots=[0, 0, 0, 0, 16384, 16384, 16384, 16384]),
-        ends=CURVE_A._replace(knots=[0, 0, 0, 1, 4, 4, 4, 4]),
-        same=CURVE_A._replace(knots=[4] * 8),
-        repeats=Curve(1, [0, 0, 2, 2, 4, 4], [0, 1, 2, 3], [0, 1, 2, 3]),
-        far=CURVE_A._replace(xs=[0, 0, 8, 262145]),
-    )
-    numbers = dict(degree=1, points=2, axes=2, knots=3, falling=4, high=4, ends=5, same=5, repeats=6, far=7)
-    for name, curve in spoiled.items():
-        yield "refused %d" % numbers[name], job_of(curve, [(9, 2, 0, 0)])
+    for number, curve in REFUSED_CURVES:
+        yield "refused %d" % number, job_of(curve, [(9, 2, 0, 0)])
     yield "refused 14", job_of(CURVE_A, [(2, 3, 5, 9), (3, 2, 5, 9)])
     yield "refused 14", job_of(CURVE_A, [(2, 3, 5, 262145)])
     yield "refused 14", job_of(CURVE_A, [(3, 2, 5, 9)], 4096)
@@ -180,14 +134,6 @@ def longest_text():
     return job_of(curve, [(-1, 1, -1, 1)] * 64)
 
 
-def damaged(name, job, places):
-    """A job cut at each of the places, and with the byte there changed in three ways."""
-    for at in places:
-        yield "%s cut at %d" % (name, at), job[:at]
-        for mask in MASKS:
-            yield "byte %d of %s changed by %#x" % (at, name, mask), job[:at] + bytes([job[at] ^ mask]) + job[at + 1 :]
-
-
 def jobs():
     """Every job that is handed over at once, with a name."""
     yield "the worked job", WORKED
@@ -222,7 +168,7 @@ def jobs():
 
 
 def runs(words):
-    """Each run as a name, what runs it, the text that is right, and the job where it is handed over at once."""
+    """Every run of the program that these words start."""
     for name, job in jobs():
         yield name, lambda job=job: whole(words, job), expected(job), job
     longest = longest_job(Dice(7))
@@ -238,24 +184,11 @@ def runs(words):
         ("a broken job in fives", lambda: in_pieces(words, WORKED[:42] + b"\3" + WORKED[43:], 5, 0.01), "refused 19 at 42\n"),
         ("the longest job in pieces", lambda: in_pieces(words, longest, 997, 0.005), expected(longest)),
         ("one byte more in pieces", lambda: in_pieces(words, longest + b"\0", 4096, 0.005), ONE_MORE),
-        ("an empty pipe", lambda: in_pieces(words, b"", 1, 0), NO_BYTES),
-        ("closed standard input", lambda: closed(words), NO_BYTES),
-        ("unreadable standard input", lambda: from_file(words, "/"), NO_BYTES),
-        ("an empty file", lambda: from_file(words, os.devnull), NO_BYTES),
     ):
         yield name, run, right, None
+    yield from without_bytes(words, NO_BYTES)
     for sample in sorted((TOP / "examples").glob("*.job")):
         yield sample.name, lambda sample=sample: from_file(words, sample), expected(sample.read_bytes()), None
-
-
-def answers_to(chosen):
-    with ThreadPoolExecutor(4) as pool:
-        return list(pool.map(lambda run: run[1](), chosen))
-
-
-def wrong(chosen, answers):
-    """The chosen runs that print something else than they should: name, what was printed, what is right."""
-    return [(run[0], answer, run[2]) for run, answer in zip(chosen, answers) if answer != run[2]]
 
 
 def explained_otherwise(chosen, answers):
@@ -266,14 +199,9 @@ def explained_otherwise(chosen, answers):
 
 def comparison_is_blind(chosen, answers):
     """Where a wrong program would pass: one that prints a fixed text, or every place one too far."""
-    for fixed in ("", NO_BYTES, WORKED_TEXT):
-        fake = ["sh", "-c", 'cat >/dev/null 2>&1; printf %s "$0"', fixed]
-        few = list(runs(fake))[::9]
-        if len(wrong(few, answers_to(few))) <= 10:
-            yield "a program that prints %r would pass" % fixed
-    farther = [re.sub(r" at (\d+)\n", lambda place: " at %d\n" % (int(place[1]) + 1), answer) for answer in answers]
-    moved = sum(one != other for one, other in zip(answers, farther))
-    if moved < 200 or len(wrong(chosen, farther)) < moved or not explained_otherwise(chosen, farther):
+    yield from passing_fixed(runs, ("", NO_BYTES, WORKED_TEXT))
+    moved = farther(answers)
+    if unnoticed(chosen, answers, moved, 200) or not explained_otherwise(chosen, moved):
         yield "a program that tells every place one too far would pass"
 
 
@@ -289,7 +217,7 @@ def main():
         sys.exit(str(fault))
     chosen = list(runs(words))
     answers = answers_to(chosen)
-    faults = ["%s: printed %r where %r is right" % (name, answer[:200], right[:200]) for name, answer, right in wrong(chosen, answers)]
+    faults = wrong_in_words(chosen, answers)
     faults += ["%s: %s" % one for one in explained_otherwise(chosen, answers)]
     faults += comparison_is_blind(chosen, answers)
     for fault in faults[:10]:

@@ -1,9 +1,10 @@
 """A curve as path data of SVG: `M` and the point where it starts, then for each piece the letter of its degree and its points behind the first. Single
-spaces, whole numbers, nothing behind the last."""
+spaces, whole numbers, nothing behind the last. And the text of `curvesvg`."""
 
 from .curve import check
 from .fault import planted
 from .pieces import cut
+from .record import Fault, refusal_text, take_lone_record
 
 LETTERS = {1: "L", 2: "Q", 3: "C"}
 SHORTEST, LONGEST = len("M 0 0 L 0 0"), 18431  # the longest has degree 1, 1,024 points and six digits with a sign everywhere
@@ -37,3 +38,13 @@ def svg(curve, room):
     text = path_data(curve.degree, (curve.xs[0], curve.ys[0]), pieces).encode("ascii")
     needed = LONGEST if planted("svg:room_of_longest") else len(text)
     return (15 if room < needed else 0), text
+
+
+def curvesvg_text(data):
+    """What the program prints: it has room for the longest text, so 15 never comes."""
+    try:
+        curve = take_lone_record(data)
+    except Fault as fault:
+        return refusal_text(fault.number, fault.place)
+    number, text = svg(curve, LONGEST)
+    return refusal_text(number, None) if number else text.decode("ascii") + "\n"
