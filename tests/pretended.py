@@ -1,4 +1,4 @@
-"""For the tests of tools/: a copy of it with a pretended kit, whose program and `rt` do what a test wants, and tests in parts."""
+"""For the tests of tools/: a copy of it with a pretended kit, whose programs and `rt` do what a test wants, and tests in parts."""
 
 import os
 import pathlib
@@ -12,6 +12,11 @@ TOP = pathlib.Path(__file__).resolve().parents[1]
 sys.dont_write_bytecode = True
 sys.path[:0] = [str(TOP / "tools"), str(TOP / "tests")]
 COMMANDS = ("sh", "cat", "dirname", "readlink", "printf", "sleep", "kill")
+
+
+def prints(text):
+    """Shell that takes what it is given and prints a text."""
+    return "cat >/dev/null; printf '%s'" % text.decode().replace("\n", "\\n")
 
 
 class Folder:
@@ -39,15 +44,14 @@ class Folder:
         self.script(self.kit / "bin" / "rt", rt)
         (self.kit / "on" / platform.machine() / "toolchain" / "lib").mkdir(parents=True, exist_ok=True)
 
-    def pretend_program(self, text):
-        """A built clampcheck that runs this text, by way of the loader that starts it."""
+    def pretend_program(self, text, name="clampcheck"):
+        """A built program that runs this text, and the loader that starts it."""
         self.pretend_kit()
-        self.script(self.kit / "on" / platform.machine() / "toolchain" / "lib" / "ld-linux-x86-64.so.2", text)
-        self.built().parent.mkdir(parents=True, exist_ok=True)
-        self.built().write_bytes(b"")
+        self.script(self.kit / "on" / platform.machine() / "toolchain" / "lib" / "ld-linux-x86-64.so.2", 'exec "$3"')
+        self.script(self.built(name), text)
 
-    def built(self):
-        return self.top / "target" / "bin" / "clampcheck"
+    def built(self, name="clampcheck"):
+        return self.top / "target" / "bin" / name
 
     def run(self, *words, given=b"", **more):
         """Runs words in the folder."""

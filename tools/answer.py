@@ -11,7 +11,7 @@ REFUSAL = re.compile(rb"refused ([1-9][0-9]?)(?: at (0|[1-9][0-9]{0,5}))?\n")
 
 
 class NotUnderstood(Exception):
-    """This is not what clampcheck prints on the job; the message says why."""
+    """This is not what the program prints on the bytes that it was given; the message says why."""
 
 
 class Answer:
@@ -29,17 +29,24 @@ class Answer:
 def can_be_told(number, place, data):
     """Whether this number goes with this place on so many bytes: four numbers have one, 16 that behind the last byte, the others that of a byte."""
     if number not in PLACED:
-        return number in refusals.WORDS and place is None
+        return place is None
     return place is not None and (place == len(data) if number == ENDED else place < len(data))
 
 
-def read_refusal(printed, data):
-    """The refusal in a line that begins as one, or NotUnderstood."""
+def read_refusal(name, printed, data):
+    """Number and place in a line that begins as a refusal by the program of this name, or NotUnderstood."""
     found = REFUSAL.fullmatch(printed)
     number, place = (int(found[1]), found[2] and int(found[2])) if found else (0, None)
-    if not can_be_told(number, place, data):
-        raise NotUnderstood("this is no refusal of a job of %d bytes: %r" % (len(data), printed[:60]))
-    return Answer(number, place)
+    if number not in refusals.TOLD[name] or not can_be_told(number, place, data):
+        raise NotUnderstood("%s does not refuse %d bytes so: %r" % (name, len(data), printed[:60]))
+    return number, place
+
+
+def read_lines(name, printed):
+    """The lines of a text that the program of this name printed to its end, or NotUnderstood."""
+    if not printed.endswith(b"\n") or not printed.isascii():
+        raise NotUnderstood("what %s printed is cut off or no text: %r" % (name, printed[-60:]))
+    return printed.decode("ascii").split("\n")[:-1]
 
 
 def sound_job(data):
@@ -84,10 +91,8 @@ def lines_by_clamp(lines, clamps):
 def read_answer(printed, data):
     """The answer in the bytes that clampcheck printed on a job's bytes, or NotUnderstood."""
     if printed.startswith(b"refused "):
-        return read_refusal(printed, data)
-    if not printed.endswith(b"\n") or not printed.isascii():
-        raise NotUnderstood("what clampcheck printed is cut off or no text: %r" % printed[-60:])
-    lines = printed.decode("ascii").split("\n")[:-1]
+        return Answer(*read_refusal("clampcheck", printed, data))
+    lines = read_lines("clampcheck", printed)
     if not lines[0].startswith("curve "):
         raise NotUnderstood("this is no line on a curve: %r" % lines[0][:60])
     job = sound_job(data)

@@ -1,4 +1,5 @@
-"""The bytes of a job, as docs/SCOPE.md lays them out under "The record on disk": written, and read field by field to the first fault."""
+"""The bytes of a job and of the record in front of it, as docs/SCOPE.md lays them out under "The record on disk": written, and read field by
+field to the first fault."""
 
 import struct
 from collections import namedtuple
@@ -42,7 +43,7 @@ class Unpaired(BadJob):
 class Job:
     """A degree, knots, points (x, y), the cutter's radius and clamps (low x, high x, low y, high y), none of them checked.
 
-    The radius is None in a job from before jobs had one: such a job can be read and told, not written.
+    The radius is None in a job from before jobs had one, and in a lone record: such a job can be read and told, not written.
     """
 
     def __init__(self, degree, knots, points, radius, clamps):
@@ -123,14 +124,20 @@ def behind(taken):
     return taken.at + 3 + taken.length
 
 
-def fields(data, front=(*RECORD, RADIUS)):
-    """The fields of a job one after the other, those in front of the clamps given by kind, and BadJob where the first fault stands."""
+def front_fields(data, kinds):
+    """The fields of these kinds one after the other, the first of them at the first byte, and BadJob where the first fault stands."""
     at = 0
-    for kind in front:
+    for kind in kinds:
         taken = take_field(data, at, kind)
         yield taken
         at = behind(taken)
-    number = 0
+
+
+def fields(data, front=(*RECORD, RADIUS)):
+    """The fields of a job one after the other, those in front of the clamps given by kind, and BadJob where the first fault stands."""
+    for taken in front_fields(data, front):
+        yield taken
+    at, number = behind(taken), 0
     while at < len(data):
         if number == MOST["clamps"]:
             raise BadJob(LEFT_OVER, at, "here the job ends, behind its clamp %d, found %d" % (number, data[at]))
@@ -166,3 +173,21 @@ def read_without_radius(data):
     """The job in bytes that lack the radius."""
     degree, knots, xs, ys, *clamps = [taken.numbers for taken in fields(data, RECORD)]
     return job_in(degree, knots, xs, ys, None, clamps)
+
+
+def read_record(data):
+    """The curve in a lone record, as a job that has nothing but a curve, or BadJob."""
+    parts = list(front_fields(data, RECORD))
+    at = behind(parts[-1])
+    if at < len(data):
+        raise BadJob(LEFT_OVER, at, "here the record ends, found %d" % data[at])
+    return job_in(*[taken.numbers for taken in parts], None, [])
+
+
+def record_in(data):
+    """What curvesvg is given of a file: of a job the record in front, of anything else all of it."""
+    try:
+        parts = list(fields(data))
+    except BadJob:
+        return data
+    return data[: behind(parts[len(RECORD) - 1])]

@@ -1,4 +1,4 @@
-"""Runs the built clampcheck: directly on x86-64, under the kit's emulator on any other machine."""
+"""Runs the built programs, clampcheck and curvesvg: directly on x86-64, under the kit's emulator on any other machine."""
 
 import os
 import pathlib
@@ -9,12 +9,14 @@ import subprocess
 import job_bytes
 
 TOP = pathlib.Path(__file__).resolve().parents[1]
-PROGRAM = TOP / "target" / "bin" / "clampcheck"
+BUILT = TOP / "target" / "bin"
+PROGRAM = BUILT / "clampcheck"
+WAY = {"clampcheck": "tools/try.sh", "curvesvg": "tools/try.sh --svg"}  # to prove and build each
 SECONDS = 60
 
 
 class NotRun(Exception):
-    """Clampcheck did not run to its end; the message says why."""
+    """A program did not run to its end; the message says why."""
 
 
 class NotBuilt(NotRun):
@@ -34,7 +36,8 @@ def toolchain():
 def command(built=PROGRAM):
     """The words that start clampcheck, or another built program, with the kit's own loader and C library, as `rt` starts it."""
     if not built.is_file():
-        raise NotBuilt("%s is not there: tools/try.sh proves and builds it" % built.relative_to(TOP))
+        way = WAY.get(built.name, WAY["clampcheck"])
+        raise NotBuilt("%s is not there: %s proves and builds it" % (built.relative_to(TOP), way))
     tools = toolchain()
     emulator = tools / "bin" / "qemu-x86_64"
     words = [tools / "lib" / "ld-linux-x86-64.so.2", "--library-path", tools / "lib", built]
@@ -47,14 +50,14 @@ def read_input(name):
         return data.read(job_bytes.MOST_BYTES + 1)
 
 
-def clampcheck(job):
-    """What clampcheck prints on a job's bytes, or NotRun."""
+def run(name, data):
+    """What the program of this name prints on some bytes, or NotRun."""
     try:
-        ended = subprocess.run(command(), input=job, stdout=subprocess.PIPE, timeout=SECONDS)
+        ended = subprocess.run(command(BUILT / name), input=data, stdout=subprocess.PIPE, timeout=SECONDS)
     except subprocess.TimeoutExpired:
-        raise NotRun("clampcheck had not ended after %d seconds" % SECONDS) from None
+        raise NotRun("%s had not ended after %d seconds" % (name, SECONDS)) from None
     except OSError as fault:
-        raise NotRun("clampcheck could not be started: %s" % fault.strerror) from None
+        raise NotRun("%s could not be started: %s" % (name, fault.strerror)) from None
     if ended.returncode:
-        raise NotRun("clampcheck ended with status %d" % ended.returncode)
+        raise NotRun("%s ended with status %d" % (name, ended.returncode))
     return ended.stdout

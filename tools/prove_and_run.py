@@ -1,4 +1,4 @@
-"""The Python part of tools/try.sh: looks at the job, proves and builds clampcheck with a line for each crate, and runs it."""
+"""The Python part of tools/try.sh: looks at the job, proves and builds clampcheck or curvesvg with a line for each crate, and runs it."""
 
 import os
 import re
@@ -8,11 +8,12 @@ import subprocess
 import sys
 
 import answer
+import asking
 import program
-import refusals
 import text_kind
 
 SAMPLE = "examples/sign.job"
+CHOICE = "--svg"
 LAST_LINES = 20
 ANSWERED, REFUSED, NO_ANSWER = 0, 2, 3
 
@@ -22,13 +23,13 @@ class NotTried(Exception):
 
 
 def say(words):
-    """To standard error and at once: standard output is for what clampcheck says."""
+    """To standard error and at once: standard output is for what the program says."""
     sys.stderr.write(words + "\n")
     sys.stderr.flush()
 
 
-def look(name):
-    """The bytes of a job; NotTried for what a glance shows to be none."""
+def look(name, way):
+    """The bytes of a job; NotTried for what a glance shows to be none, with advice to go the same way again."""
     try:
         data = program.read_input(name)
     except OSError as fault:
@@ -37,8 +38,8 @@ def look(name):
         raise NotTried("%s is empty. A job is made of a description such as examples/sign.txt: python3 tools/job.py make" % name)
     if text_kind.is_text(data):
         text, job = shlex.quote(name), shlex.quote(os.path.splitext(name)[0] + ".job")
-        words = "%s is %s, not a job. Make a job of it, and try that:\n    python3 tools/job.py make %s %s\n    tools/try.sh %s"
-        raise NotTried(words % (name, text_kind.kind(data), text, job, job))
+        words = "%s is %s, not a job. Make a job of it, and try that:\n    python3 tools/job.py make %s %s\n    %s %s"
+        raise NotTried(words % (name, text_kind.kind(data), text, job, way, job))
     return data
 
 
@@ -55,14 +56,14 @@ def crates_under(name):
     return found
 
 
-def prove():
-    """Proves and builds clampcheck; NotTried with the end of what `rt` printed where that fails."""
+def prove(crate):
+    """Proves and builds the crate of a program; NotTried with the end of what `rt` printed where that fails."""
     if not shutil.which("rt"):
         raise NotTried("The Rattle kit (rt) is not on the PATH.")
-    crates = len(crates_under("clampcheck"))
-    say("Proving and building clampcheck, %d crates; the first time this takes some minutes." % crates)
+    crates = len(crates_under(crate))
+    say("Proving and building %s, %d crates; the first time this takes some minutes." % (crate, crates))
     printed, proved = [], 0
-    words = ["rt", "check", "clampcheck"]
+    words = ["rt", "check", crate]
     with subprocess.Popen(words, cwd=program.TOP, stdout=subprocess.PIPE, stderr=subprocess.STDOUT, text=True, errors="replace") as rt:
         for line in rt.stdout:
             printed.append(line)
@@ -71,14 +72,15 @@ def prove():
                 proved += 1
                 say("proved %s (%d of %d)" % (name[1], proved, crates))
     if rt.returncode:
-        raise NotTried("".join(printed[-LAST_LINES:]) + "clampcheck is not proved: rt check ended with status %d." % rt.returncode)
+        words = "%s is not proved: rt check ended with status %d."
+        raise NotTried("".join(printed[-LAST_LINES:]) + words % (crate, rt.returncode))
 
 
-def show(data, name):
-    """Runs clampcheck and prints what it says of the file of this name, a refusal in words; the status to end with."""
-    printed = program.clampcheck(data)
-    found = answer.read_answer(printed, data)
-    told = refusals.told(found.refusal, found.place, data, name) if found.refusal else []
+def show(asked, data, name):
+    """Runs the program and prints what it says of the file of this name, a refusal in words; the status to end with."""
+    printed = asked.prints(data)
+    found = asked.understood(printed, data)
+    told = asked.told(found, data, name) if found.refusal else []
     lines = told or printed.decode("ascii").splitlines()
     sys.stdout.write("".join(line + "\n" for line in lines))
     sys.stdout.flush()
@@ -86,15 +88,18 @@ def show(data, name):
 
 
 def main(arguments):
-    if len(arguments) > 1:
-        say("Give one job: tools/try.sh [JOB]")
+    jobs = [word for word in arguments if word != CHOICE]
+    chosen = len(jobs) < len(arguments)
+    asked = asking.CURVESVG if chosen else asking.CLAMPCHECK
+    if len(jobs) > 1:
+        say("Give one job: %s [JOB]" % program.WAY[asked.name])
         return NO_ANSWER
-    name = arguments[0] if arguments else str(program.TOP / SAMPLE)
+    name = jobs[0] if jobs else str(program.TOP / SAMPLE)
     try:
-        data = look(name)
-        prove()
-        say("clampcheck < %s" % (name if arguments else SAMPLE))
-        return show(data, name)
+        data = look(name, program.WAY[asked.name])
+        prove(asked.name)
+        say("%s < %s%s" % (asked.name, "the curve in " * chosen, name if jobs else SAMPLE))
+        return show(asked, data, name)
     except (NotTried, program.NotRun, answer.NotUnderstood) as fault:
         say(str(fault))
     except OSError as fault:

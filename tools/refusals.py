@@ -1,11 +1,12 @@
-"""The refusals that a job can meet, in words, and which of them a job's bytes, its curve, its cutter or its clamps meet first, and where.
+"""The refusals that a job or its record can meet, in words, and which of them its bytes, its curve, its cutter or its clamps meet first, and where.
 
-Clampcheck judges; this says the same of a description before there is a job, and says of a refused job what is wrong in it.
+Clampcheck and curvesvg judge; this says the same of a description before there is a job, and says of a refused file what is wrong in it.
 """
 
 import shlex
 from collections import namedtuple
 
+import cutting
 import job_bytes
 import text_kind
 
@@ -20,13 +21,16 @@ WORDS = {
     5: "the first degree + 1 knots are not equal, or the last are not, or the first knot equals the last",
     6: "a knot value stands too often: at an end more than degree + 1 times, inside more than degree times",
     7: "a coordinate lies beyond 262,144 hundredths of a millimetre, about 2.6 metres, from the middle",
+    10: "curvesvg cannot cut a curve into more than 341 pieces of degree 3 or 511 of degree 2: make two curves of it",
+    11: "curvesvg cannot cut the curve: a point would fall between two grid lines; with evenly spaced knots and all coordinates multiples of 12 none ever does",
     14: "a clamp's sides are crossed, low above high, or one of them lies beyond 262,144",
     16: "the file ends before the job does: it is cut short, or empty",
     19: "a part of the job begins with another tag than belongs there",
     20: "a part of the job has a length that it cannot have",
-    21: "something stands behind the 64th clamp, the last that a job can have",
+    21: "something stands behind the 64th clamp, the last that a job can have; for curvesvg, behind the record",
     22: "the cutter's radius is above 4,096 hundredths of a millimetre, about 41 mm",
 }
+TOLD = {"clampcheck": {*WORDS} - {10, 11}, "curvesvg": {*WORDS} - {14, 22}}
 
 # The number of a refusal, what is wrong, and the word and place (from 0) of the line that it concerns, or None.
 Fault = namedtuple("Fault", "number words line")
@@ -109,26 +113,45 @@ def clamps_fault(job):
     return None
 
 
-def fault_of(job):
-    """The first fault in the order of judging, or None where clampcheck takes the job."""
-    for judge in (counts_fault, falling_fault, ends_fault, repeats_fault, range_fault, radius_fault, clamps_fault):
+def cut_fault(job):
+    """Rows 10 and 11, where rows 1 to 7 have passed."""
+    try:
+        cutting.cut(job)
+    except cutting.Uncut as uncut:
+        return Fault(uncut.number, str(uncut), None)
+    return None
+
+
+OF_CURVE = (counts_fault, falling_fault, ends_fault, repeats_fault, range_fault)
+OF_JOB = (*OF_CURVE, radius_fault, clamps_fault)
+OF_PATH = (*OF_CURVE, cut_fault)
+
+
+def fault_of(job, judges=OF_JOB):
+    """The first fault in the order of judging, or None where clampcheck, or the program with these judges, takes the job."""
+    for judge in judges:
         fault = judge(job)
         if fault:
             return fault
     return None
 
 
-def judged(data):
+def judged(data, read=job_bytes.read_job, judges=OF_JOB):
     """The first refusal that these bytes meet: its number, its place (None where it has none) and what is wrong; None where clampcheck takes them."""
     try:
-        fault = fault_of(job_bytes.read_job(data))
+        fault = fault_of(read(data), judges)
     except job_bytes.BadJob as bad:
         return bad.number, bad.place, str(bad)
     return fault and (fault.number, None, fault.words)
 
 
+def judged_record(data):
+    """The same for curvesvg, which takes a lone record."""
+    return judged(data, job_bytes.read_record, OF_PATH)
+
+
 def line(number, place):
-    """What clampcheck prints on a refused job, without the newline."""
+    """What either program prints on refused bytes, without the newline."""
     return "refused %d" % number if place is None else "refused %d at %d" % (number, place)
 
 
@@ -139,19 +162,19 @@ def mending(name):
     return "%s: %s; python3 tools/job.py show %s prints the description" % (lacks, todo, shlex.quote(name))
 
 
-def particulars(number, place, data, name):
-    """What is wrong in these bytes, as far as it can be said, for the refusal that clampcheck gave on the file of this name."""
+def particulars(number, place, data, name, judge):
+    """What is wrong in these bytes, as far as it can be said, for the refusal that a program gave on the file of this name."""
     if place is not None and text_kind.is_text(data):
         return ["this is %s; python3 tools/job.py make turns a description into a job" % text_kind.kind(data)]
-    found = judged(data)
+    found = judge(data)
     words = [found[2]] if found and found[:2] == (number, place) else []
-    if words and job_bytes.lacks_radius(data):
+    if words and place is not None and job_bytes.lacks_radius(data):
         words.append(mending(name))
     elif place is not None and data:
         words.append("python3 tools/job.py explain %s shows what stands at which byte" % shlex.quote(name))
     return words
 
 
-def told(number, place, data, name="JOB"):
+def told(number, place, data, name="JOB", judge=judged):
     """Lines that say a refusal: what the number means, what is wrong in these bytes, and where more is said."""
-    return ["%s: %s" % (line(number, place), WORDS[number])] + particulars(number, place, data, name)
+    return ["%s: %s" % (line(number, place), WORDS[number])] + particulars(number, place, data, name, judge)

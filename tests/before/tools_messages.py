@@ -95,7 +95,7 @@ def messages():
         if number:
             assert clampcheck_text(write_job(description.read_text(text)))[0] == number, "the second program says another number"
             assert "refused %d" % number in found[1]
-    assert {number for _, number, _ in SAID} == {None, *refusals.WORDS} - {*PLACED}, "a refusal is not tried"
+    assert {number for _, number, _ in SAID} == {None, *refusals.TOLD["clampcheck"]} - {*PLACED}, "a refusal is not tried"
     assert said(SOUND) == (None, None) and said(SOUND + "clamp 0 0 -262144 262144\n") == (None, None)
     assert said(BARE + "radius 4096\n") == (None, None) and description.read_text(BARE + "radius 4096\n").radius == 4096, "the widest cutter"
     assert said("\ufeff" + SOUND)[0] is None and description.text_of(("\ufeff" + SOUND).encode()) == SOUND
@@ -126,7 +126,7 @@ def judged():
             told = refusals.told(*found[:2], data, "a job")
             assert told[:2] == ["%s: %s" % (text[:-1], refusals.WORDS[number]), found[2]], told
             assert told[2:] == ["python3 tools/job.py explain 'a job' shows what stands at which byte"] * (number in PLACED), told
-    assert seen == {0, *refusals.WORDS}, "a refusal is not reached: %s" % seen
+    assert seen == {0, *refusals.TOLD["clampcheck"]}, "a refusal is not reached: %s" % seen
     for number, place, old in ((19, 61, OLD), (16, 61, OLD[:61])):
         assert clampcheck_text(old) == (number, "refused %d at %d\n" % (number, place)), "the second program says something else"
         told = refusals.told(number, place, old, "my old.job")
@@ -274,6 +274,7 @@ def readme():
     text = (TOP / "README.md").read_text()
     rows = re.findall(r"^\| (\d+) \| (.*) \|$", text, re.M)
     assert {int(number): words for number, words in rows} == refusals.WORDS, "README.md tells the refusals in other words"
+    assert refusals.TOLD["clampcheck"] | refusals.TOLD["curvesvg"] == {*refusals.WORDS}, "a refusal is told that no program gives"
     shown = "".join("    %s\n" % line for line in explain.explained(WORKED[:4] + b"\7" + WORKED[5:]))
     assert shown in text, "README.md shows another explanation"
 

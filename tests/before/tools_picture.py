@@ -13,42 +13,18 @@ from itertools import product
 sys.dont_write_bytecode = True
 sys.path[:0] = [str(pathlib.Path(__file__).resolve().parents[1])]
 
-from pretended import TOP, in_folder, run_parts  # noqa: E402
+from pretended import in_folder, run_parts  # noqa: E402
 import draw  # noqa: E402
 import refusals  # noqa: E402
 import shape  # noqa: E402
 from drawing import labels, words  # noqa: E402
-from job_bytes import Job, read_job, write_job  # noqa: E402
-from second_program.curve import Curve, exact_point  # noqa: E402
+from harness.drawn import SIGN, all_of, bands, curve_of, frame, picture, place, scale_and_origin, texts, texts_on  # noqa: E402
+from job_bytes import Job, write_job  # noqa: E402
+from second_program.curve import exact_point  # noqa: E402
 from second_program.record import clampcheck_text  # noqa: E402
 
-SIGN = read_job((TOP / "examples" / "sign.job").read_bytes())
 FILLS = {"#cfe8dc": words.CLEAR, "url(#crossed)": words.ENTERED, "url(#striped)": words.BOXED}
 PART = 16
-
-
-def picture(job):
-    """The picture of a job as XML."""
-    data = write_job(job)
-    return xml.fromstring(draw.draw(data, clampcheck_text(data)[1].encode()))
-
-
-def all_of(drawn, name):
-    return [part.attrib for part in drawn.iter("{http://www.w3.org/2000/svg}" + name)]
-
-
-def texts(drawn):
-    return [part.text for part in drawn.iter("{http://www.w3.org/2000/svg}text")]
-
-
-def place(rect):
-    """Left, top, right, bottom."""
-    left, top, wide, high = (float(rect[key]) for key in ("x", "y", "width", "height"))
-    return left, top, left + wide, top + high
-
-
-def frame(drawn):
-    return place(next(rect for rect in all_of(drawn, "rect") if rect.get("stroke") == "#dde2e7"))
 
 
 def clamp_places(drawn):
@@ -78,10 +54,6 @@ def random_job(dice, clamps=62):
         far = dice.choice((0,) * 12 + (9 * size,))
         found.append((x + far, x + far + wide, y, y + dice.choice((wide, wide // 9, 0))))
     return Job(m, knots, points, dice.choice((0, size // 60, size // 15)), found + found[:2])
-
-
-def curve_of(job):
-    return Curve(job.degree, job.knots, *([point[axis] for point in job.points] for axis in (0, 1)))
 
 
 def shapes():
@@ -121,14 +93,6 @@ def distances():
     assert shape.line_square((0, 0), (9, 9), (2, 3, 5, 9)) == 2 and shape.line_square((0, 0), (9, 9), (2, 3, 3, 9)) == 0, "a diagonal"
 
 
-def scale_and_origin(drawn):
-    """Of a picture with the sample's points: how long a step is, and where x and y are 0, from the first and the last control point."""
-    dots = [(float(dot["cx"]), float(dot["cy"])) for dot in all_of(drawn, "circle")]
-    first, last = dots[0], dots[len(SIGN.points) - 1]
-    scale = (last[0] - first[0]) / (9500 - 800)
-    return scale, (first[0] - 800 * scale, first[1] + 1200 * scale)
-
-
 def sign():
     """The sample: kinds in words and by pattern, each knot's value beside its place, and the scale."""
     drawn = picture(SIGN)
@@ -160,11 +124,6 @@ def sign():
         assert away < 60, "the value %s stands %.0f away from its knot" % (value, away)
 
 
-def bands(drawn):
-    """The cut, in the picture alone: as wide as no other line, round at its joins and ends."""
-    return [path for path in all_of(drawn, "path") if path.get("stroke-linecap") == "round"]
-
-
 def outlines(drawn):
     """The places of the widened clamps, without the sign in the legend."""
     return [place(rect) for rect in all_of(drawn, "rect") if rect.get("clip-path")]
@@ -192,7 +151,7 @@ def band(drawn, radius):
     assert abs(float(cut["stroke-width"]) - 2 * radius * scale_and_origin(drawn)[0]) < 0.02, "the band is %s wide" % cut["stroke-width"]
     assert cut["stroke-linejoin"] == "round" and 0 < float(cut["stroke-opacity"]) < 1, "the band is drawn as %s" % cut
     assert cut["d"].count("C") == 9 and cut["d"].count("M") == 1, "the band is not the whole curve"
-    assert inside(on_sheet(drawn, (800, 9500, 1200, 5800), radius), frame(drawn)), "the band leaves the frame"
+    assert inside(on_sheet(drawn, shape.box(SIGN.points), radius), frame(drawn)), "the band leaves the frame"
 
 
 def cutter():
@@ -302,7 +261,7 @@ def long_curve():
     job = Job(3, knots, points, 30, [(20000, 20400, 0, 3000), (0, 9, 5000, 5009)])
     data = write_job(job)
     listed = [line.split()[-1] for line in clampcheck_text(data)[1].splitlines() if "clamp 1 " in line]
-    drawn = draw.draw(data, clampcheck_text(data)[1].encode())
+    drawn = draw.draw(data, *texts_on(data))
     said = texts(xml.fromstring(drawn))
     assert len(listed) > 8 and {listed[0].split("..")[0], listed[-1].split("..")[1]} <= set(said), "what is listed cannot be found"
     assert len(drawn) < 500000
@@ -325,9 +284,9 @@ def odd():
 def refused():
     """Every refusal gives a picture with its words."""
     broken = {16: 4, 19: 0, 20: 1, 21: 3}
-    for number in refusals.WORDS:
+    for number in refusals.TOLD["clampcheck"]:
         line = refusals.line(number, broken.get(number))
-        drawn = xml.fromstring(draw.draw(b"\x01\x01\x00\x05", line.encode() + b"\n"))
+        drawn = xml.fromstring(draw.draw(b"\x01\x01\x00\x05", line.encode() + b"\n", None))
         said = " ".join(texts(drawn))
         assert "%s: %s" % (line, refusals.WORDS[number]) in said, "refusal %d is told as %r" % (number, said)
         assert ("job.py explain" in said) == (number in broken), "refusal %d: %r" % (number, said)
@@ -367,4 +326,4 @@ def commands(folder):
 
 
 DONE = "tools/draw.py: shapes, distances, the sample, cutters, kinds of clamps, 5 crowded sheets, far clamps, 1,024 points, %d refusals"
-run_parts(DONE % len(refusals.WORDS), shapes, distances, sign, cutter, kinds, crowded, beside_outlines, far, long_curve, odd, refused, commands)
+run_parts(DONE % len(refusals.TOLD["clampcheck"]), shapes, distances, sign, cutter, kinds, crowded, beside_outlines, far, long_curve, odd, refused, commands)

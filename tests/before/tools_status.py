@@ -6,9 +6,10 @@ import sys
 sys.dont_write_bytecode = True
 sys.path[:0] = [str(pathlib.Path(__file__).resolve().parents[1])]
 
-from pretended import TOP, in_folder, run_parts  # noqa: E402
+from pretended import TOP, in_folder, prints, run_parts  # noqa: E402
 import answer  # noqa: E402
 import exit_status  # noqa: E402
+from harness.changed import changed  # noqa: E402
 from job_bytes import Job, read_job, write_job  # noqa: E402
 from refusals import mending  # noqa: E402
 
@@ -31,11 +32,6 @@ OLD_WORDS = """refused 19 at 61: a part of the job begins with another tag than 
 byte 61: here the cutter's radius begins with tag 6, found 5
 %s
 """ % mending("my old.job")
-
-
-def prints(text):
-    """Shell that prints a text."""
-    return "printf '%s'" % text.decode().replace("\n", "\\n")
 
 
 # What the program does, the job, and the status that is right.
@@ -76,23 +72,6 @@ def word(printed, job):
         return None
 
 
-def changed(text):
-    """Every text that one byte more, less or other makes, every front and every order of two lines."""
-    for at in range(len(text) + 1):
-        yield text[:at]
-        yield text[:at] + text[at + 1 :]
-        for byte in b"0129 \nacr.\x00\xff":
-            yield text[:at] + bytes([byte]) + text[at:]
-            yield text[:at] + bytes([byte]) + text[at + 1 :]
-    lines = text.splitlines(True)
-    for a in range(len(lines)):
-        for b in range(len(lines)):
-            swapped = list(lines)
-            swapped[a], swapped[b] = lines[b], lines[a]
-            yield b"".join(swapped)
-            yield b"".join(lines[:a] + lines[b:])
-
-
 def texts():
     """In one process: whatever is changed in an all-clear text, it says all clear no more."""
     for job, text in ((CLEAR, CLEAR_TEXT), (BARE, BARE_TEXT)):
@@ -106,7 +85,7 @@ def texts():
         job = read_job(SIGN)
         whole = b"curve degree 3 points 12 spans 9\nclamp 1 clear\n" + text + b"clamp 3 clear\nclamp 4 clear\nclamp 5 clear\n"
         assert len(job.clamps) == 5 and word(whole, SIGN) is None, "%r is understood" % text
-    assert sorted(exit_status.ENDS.values()) == [10, 11, 12]
+    assert [exit_status.ENDS[word] for word in (answer.ALL_CLEAR, answer.MAY_MEET, answer.REFUSED)] == [10, 11, 12]
 
 
 def refusals():
@@ -141,7 +120,7 @@ def programs(folder):
         ("my old.job", OLD, b"refused 19 at 61\n", OLD_WORDS),
     ):
         (folder.top / name).write_bytes(job)
-        folder.pretend_program("cat >/dev/null; " + prints(said))
+        folder.pretend_program(prints(said))
         ended = folder.run("tools/clampcheck", name)
         assert (ended.returncode, ended.stdout) == (2, said), ended
         assert ended.stderr.decode() == words, ended.stderr.decode()
@@ -150,7 +129,7 @@ def programs(folder):
 @in_folder
 def surroundings(folder):
     """No file, no output, no kit, no program, no Python: 3."""
-    folder.pretend_program("cat >/dev/null; " + prints(CLEAR_TEXT))
+    folder.pretend_program(prints(CLEAR_TEXT))
     clear = folder.top / "clear.job"
     clear.write_bytes(CLEAR)
     assert folder.run("tools/clampcheck", clear).returncode == 0, "a file is not read"

@@ -8,12 +8,16 @@ sys.dont_write_bytecode = True
 sys.path[:0] = [str(pathlib.Path(__file__).resolve().parents[1])]
 
 from pretended import TOP, in_folder, run_parts  # noqa: E402
-from refusals import mending  # noqa: E402
+from harness.told_path import curvesvg_text  # noqa: E402
+from job_bytes import record_in  # noqa: E402
+from refusals import WORDS, mending  # noqa: E402
+from second_program.curve import Curve  # noqa: E402
+from second_program.job_cases import job_of  # noqa: E402
 
-CRATES = "# what is listed\nrefusal:\ngrid: refusal\nother: grid\nclampcheck: io grid refusal\n"
+CRATES = "# what is listed\nrefusal:\ngrid: refusal\nother: grid\nclampcheck: io grid refusal\ncurvesvg: io refusal\n"
 PROVES = "printf 'rt: refusal proved (unchanged since it was last proved)\\nlogic=proved\\nrt: grid proved (9 s)\\nrt: ok\\n'"
 WAITS = "printf 'rt: refusal proved (1 s)\\n'; n=0; while [ ! -e go ]; do n=$((n+1)); [ $n -lt 200 ] || exit 1; sleep 0.05; done"
-ADVICE = "    python3 tools/job.py make 'my sign.txt' 'my sign.job'\n    tools/try.sh 'my sign.job'\n"
+ADVICE = "    python3 tools/job.py make 'my sign.txt' 'my sign.job'\n    tools/try.sh%s 'my sign.job'\n"
 SAMPLE = (TOP / "examples" / "sign.job").read_bytes()
 SAMPLE_TEXT = b"""curve degree 3 points 12 spans 9
 clamp 1 may meet 0..10
@@ -28,6 +32,8 @@ clamp 5 may meet 80..90
 CUT = "byte 240: here the contents of clamp 5 go on, 1 byte more, found the end\n"
 TAGGED = "byte 4: here the knots begin with tag 2, found 7\n"
 MORE = "python3 tools/job.py explain cut.job shows what stands at which byte\n"
+PATH = curvesvg_text(record_in(SAMPLE))[1].encode()
+UNCUT = job_of(Curve(2, [0, 0, 0, 2, 4, 4, 4], [0, 4, 8, 12], [0, 7, 8, 0]), [])
 OLD = "byte 141: here the cutter's radius begins with tag 6, found 5\n%s\n" % mending("cut.job")
 
 
@@ -42,13 +48,18 @@ def look(folder):
         ("none.job", "none.job: No such file or directory"),
         ("tools", "tools: Is a directory"),
         ("empty.job", "empty.job is empty. A job is made of a description such as examples/sign.txt: python3 tools/job.py make"),
-        ("my sign.txt", "my sign.txt is UTF-8 text, not a job. Make a job of it, and try that:\n" + ADVICE),
+        ("my sign.txt", "my sign.txt is UTF-8 text, not a job. Make a job of it, and try that:\n" + ADVICE % ""),
         ("wide.txt", "wide.txt is UTF-16 text, not a job. Make a job of it"),
     ):
         ended = folder.run("tools/try.sh", name)
         assert (ended.returncode, ended.stdout) == (3, b"") and words in ended.stderr.decode(), "%s: %r" % (name, ended)
         assert not (folder.top / "started").exists(), "%s: a proof was started" % name
+    ended = folder.run("tools/try.sh", "--svg", "my sign.txt")
+    assert ended.returncode == 3 and (ADVICE % " --svg") in ended.stderr.decode(), "the advice goes another way: %r" % ended
     assert folder.run("tools/try.sh", "a", "b").returncode == 3
+    ended = folder.run("tools/try.sh", "--svg", "a", "b")
+    assert ended.returncode == 3 and b"Give one job: tools/try.sh --svg [JOB]" in ended.stderr, ended
+    assert not (folder.top / "started").exists(), "a proof was started"
 
 
 @in_folder
@@ -105,4 +116,34 @@ def refusal(folder):
     assert (ended.returncode, ended.stdout) == (3, b"") and b"cut off" in ended.stderr, ended
 
 
-run_parts("tools/try.sh: 6 jobs looked at, 4 proofs, 4 refusals", look, prove, at_once, refusal)
+@in_folder
+def svg(folder):
+    """With --svg the other program is proved, built and run, on the curve alone."""
+    folder.pretend_program("exit 1")
+    folder.pretend_program("cat >given; cat sign.out", "curvesvg")
+    (folder.top / "sign.out").write_bytes(PATH)
+    (folder.top / "crates.txt").write_text(CRATES)
+    folder.pretend_kit('[ "$*" = "check curvesvg" ] || exit 1; ' + PROVES)
+    ended = folder.run("tools/try.sh", "--svg")
+    assert (ended.returncode, ended.stdout) == (0, PATH), ended
+    assert ended.stderr.decode().splitlines() == [
+        "Proving and building curvesvg, 2 crates; the first time this takes some minutes.",
+        "proved refusal (1 of 2)",
+        "proved grid (2 of 2)",
+        "curvesvg < the curve in examples/sign.job",
+    ], ended.stderr
+    assert (folder.top / "given").read_bytes() == record_in(SAMPLE) == SAMPLE[:141], "curvesvg is given something else than the record"
+    (folder.top / "uncut.job").write_bytes(UNCUT)
+    (folder.top / "sign.out").write_bytes(b"refused 11\n")
+    ended = folder.run("tools/try.sh", "uncut.job", "--svg")
+    words = "refused 11: %s\ncut at knot 2 the curve would have a point between y 7 and y 8\n" % WORDS[11]
+    assert (ended.returncode, ended.stdout.decode()) == (2, words), ended
+    (folder.top / "sign.out").write_bytes(PATH[:-9])
+    ended = folder.run("tools/try.sh", "--svg")
+    assert (ended.returncode, ended.stdout) == (3, b"") and b"cut off" in ended.stderr, ended
+    folder.pretend_kit("exit 1")
+    ended = folder.run("tools/try.sh", "--svg")
+    assert ended.returncode == 3 and b"curvesvg is not proved: rt check ended with status 1." in ended.stderr, ended
+
+
+run_parts("tools/try.sh: 8 jobs looked at, 6 proofs, 5 refusals", look, prove, at_once, refusal, svg)

@@ -40,11 +40,16 @@ class Legend:
         self.sheet.text(LEFT + wide + 10, y + 3, length(steps), SIZE, fill="black")
         self.y += 34
 
+    def curve(self, why):
+        """The curve, and why it is not the one that curvesvg printed, where it is not."""
+        self.sign(self.knotted, "the curve; a stroke across it is a knot, with its value where there is room")
+        if why:
+            self.row("this curve is worked out here and not proved: " + why)
+
     def signs(self, picture):
-        """The lines of the picture, those that are there."""
+        """The other lines of the picture, those that are there."""
         kinds = {picture.kind(span) for span in picture.pieces}
         stroke = lambda style: lambda x, y: self.sheet.line([(x, y), (x + 46, y)], **style)
-        self.sign(self.knotted, "the curve; a stroke across it is a knot, with its value where there is room")
         self.width(picture)
         if ENTERED in kinds:
             self.sign(stroke(piece_style(ENTERED)), "a piece between two knots whose cut runs into a clamp, or touches one")
