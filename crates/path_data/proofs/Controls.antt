@@ -4,20 +4,15 @@ use mathlib.Core.Path.{_≡_, refl, sym, _∙_, ap}
 use mathlib.Core.Logic.{inl, inr}
 use Prim.Native.Char.{code}
 use Prim.Native.Nat.{ℕ}
-use Prim.Native.String.{String, [] as ended, _∷_ as _and_}
 use native.Mathlib.Omega.{arith}
 use lib.IntN.{ℤ, pos, negsuc}
 use lib.ListN.{getD}
 use Rattle.digits.specs.Decimal.{digitsOf, decimal}
+use Rattle.digits.specs.Quoted.{quoted}
 use Rattle.grid.specs.Limits.{svgMost}
 use Rattle.path_data.specs.Text.{pairsText, segmentText, segmentsText, moveText, pathText}
 use Rattle.path_data.specs.Language.{many, none, more}
 use Rattle.path_data.specs.Grammar.{wsp, svgPath}
-
--- the bytes of a text in quotes
-abbrev bytes : String → List ℕ
-bytes ended = []
-bytes (letter and text) = code letter ∷ bytes text
 
 -- four places of a piece
 abbrev four : ℤ → ℤ → ℤ → ℤ → List ℤ
@@ -26,7 +21,7 @@ four a b c d = a ∷ b ∷ c ∷ d ∷ []
 -- points (0,0) (0,8) (8,8) (8,0) of degree 3
 cubic-written :
     pathText 3 (record { low = 0; high = 4; xs = four (pos 0) (pos 0) (pos 8) (pos 8); ys = four (pos 0) (pos 8) (pos 8) (pos 0) } ∷ [])
-    ≡ bytes "M 0 0 C 0 8 8 8 8 0"
+    ≡ quoted "M 0 0 C 0 8 8 8 8 0"
 unfolding pathText moveText segmentsText segmentText pairsText decimal digitsOf
 cubic-written = refl
 
@@ -34,14 +29,14 @@ cubic-written = refl
 quadratics-written :
     pathText 2 (record { low = 0; high = 2; xs = four (pos 0) (pos 4) (pos 6) (pos 0); ys = four (pos 0) (pos 8) (pos 8) (pos 0) }
     ∷ record { low = 2; high = 4; xs = four (pos 6) (pos 8) (pos 12) (pos 0); ys = four (pos 8) (pos 8) (pos 0) (pos 0) } ∷ [])
-    ≡ bytes "M 0 0 Q 4 8 6 8 Q 8 8 12 0"
+    ≡ quoted "M 0 0 Q 4 8 6 8 Q 8 8 12 0"
 unfolding pathText moveText segmentsText segmentText pairsText decimal digitsOf
 quadratics-written = refl
 
 -- points (-5,0) (10,-262144) of degree 1
 line-written :
     pathText 1 (record { low = 0; high = 1; xs = four (negsuc 4) (pos 10) (pos 0) (pos 0); ys = four (pos 0) (negsuc 262143) (pos 0) (pos 0) } ∷ [])
-    ≡ bytes "M -5 0 L 10 -262144"
+    ≡ quoted "M -5 0 L 10 -262144"
 unfolding pathText moveText segmentsText segmentText pairsText decimal digitsOf
 line-written = refl
 
@@ -60,8 +55,8 @@ white-first back (more w ws (inr (inr (inl s))) rest) e = absurd (omega (arith, 
 white-first back (more w ws (inr (inr (inr (inl s)))) rest) e = absurd (omega (arith, e, front-byte (code "\u{c}") w ws back s))
 white-first back (more w ws (inr (inr (inr (inr s)))) rest) e = absurd (omega (arith, e, front-byte (code "\r") w ws back s))
 
-move-asked : svgPath (bytes "L 0 0") → ⊥
+move-asked : svgPath (quoted "L 0 0") → ⊥
 move-asked (front, back, e, spaces, (move, rest, f, (letter, pair, g, m, _), _)) =
     let empty : front ≡ [] = white-first back spaces (ap (λ (l : List ℕ). getD l 0 0) (sym e)) in
-    let all : bytes "L 0 0" ≡ (letter ++ pair) ++ rest = e ∙ ap (λ (l : List ℕ). l ++ back) empty ∙ f ∙ ap (λ (l : List ℕ). l ++ rest) g in
+    let all : quoted "L 0 0" ≡ (letter ++ pair) ++ rest = e ∙ ap (λ (l : List ℕ). l ++ back) empty ∙ f ∙ ap (λ (l : List ℕ). l ++ rest) g in
     omega (arith, ap (λ (l : List ℕ). getD l 0 0) all, front-byte (code "M") letter pair rest m)

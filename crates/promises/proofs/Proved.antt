@@ -53,10 +53,11 @@ use Rattle.round_trip.proofs.JobTrip.{job-reads-back, jobs-short, job-faults-ex
 use Rattle.worked.proofs.WorkedLaws.{worked-hold}
 use Rattle.job_text.proofs.TextLaws.{parts-are-the-text, written-is-text}
 use Rattle.job_text.proofs.UniqueLaws.{one-text, broken-is-one-line}
+use Rattle.svg_text.proofs.UniqueLaws.{some-svg-text, one-svg-text, broken-record-is-one-line, front-tells-text}
 use Rattle.clear_is_clear.proofs.ClearLaws.{clear-is-clear, every-clamp-told, else-listed}
 use Rattle.knots_exact.proofs.CompactionLaws.{compact-keeps-curve, editing-passes}
 use Rattle.compact.proofs.OutcomeLaws as Compaction
-use Rattle.promises.specs.Promises.{CheckGivesLowestRow, RefusalsAnswerFirst, ResultsHandedOver, CarryingPointsCarry, SpansListedExactly, InsertedEntryByEntry, InsertedThenRemoved, CompactionTakesWhatItCounts, JoinedCurveMeetsPoints, MeetingPointsDropOut, CurvesCutAtKnots, PiecesAreTheCurve, PiecesCoverTheCurve, PathDataWritten, ExportsDetermined, EveryParameterHasItsSpan, ComputedPointNearExact, CutsReported, CrossingsReported, InsertionKeepsCurve, RemovalKeepsCurve, RemovalDetermined, CompactionKeepsCurve, CompactionDetermined, EditedCurvePasses, JoinedCurvePasses, JoinedCurveIsHermite, RecordsGoRound, FaultIsLeftmost, PlacesToldWithFaults, ReadingIsExact, JobsReadBack, BurstsReadAsJoined, BurstsAreKept, ProgramWritesItsText, ClearMeansClear, WorkedCasesHold}
+use Rattle.promises.specs.Promises.{CheckGivesLowestRow, RefusalsAnswerFirst, ResultsHandedOver, CarryingPointsCarry, SpansListedExactly, InsertedEntryByEntry, InsertedThenRemoved, CompactionTakesWhatItCounts, JoinedCurveMeetsPoints, MeetingPointsDropOut, CurvesCutAtKnots, PiecesAreTheCurve, PiecesCoverTheCurve, PathDataWritten, DrawingProgramHasOneText, ExportsDetermined, EveryParameterHasItsSpan, ComputedPointNearExact, CutsReported, CrossingsReported, InsertionKeepsCurve, RemovalKeepsCurve, RemovalDetermined, CompactionKeepsCurve, CompactionDetermined, EditedCurvePasses, JoinedCurvePasses, JoinedCurveIsHermite, RecordsGoRound, FaultIsLeftmost, PlacesToldWithFaults, ReadingIsExact, JobsReadBack, BurstsReadAsJoined, BurstsAreKept, ProgramWritesItsText, ClearMeansClear, WorkedCasesHold}
 
 pub check-gives-lowest-row : CheckGivesLowestRow
 check-gives-lowest-row = check-answers
@@ -198,3 +199,6 @@ pieces-cover-the-curve = ((piece-knots, spans-follow), piece-points, pieces-meet
 
 pub path-data-written : PathDataWritten
 path-data-written = (svg-is-path-data, (svg-within-most, most-is-reached), success-writes-text, refusal-writes-nothing)
+
+pub drawing-program-has-one-text : DrawingProgramHasOneText
+drawing-program-has-one-text = (some-svg-text, one-svg-text, broken-record-is-one-line, front-tells-text)

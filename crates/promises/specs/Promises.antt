@@ -43,6 +43,7 @@ use Rattle.compact.specs.declared.CompactAnswer.{CompactAnswer}
 use Rattle.compact.specs.Outcome.{CompactOutcome}
 use Rattle.round_trip.specs.RoundTrip as Trip
 use Rattle.job_text.specs.Program.{PartsAreTheText, WrittenIsText, BrokenIsOneLine, OneText}
+use Rattle.svg_text.specs.Program.{SomeSvgText, OneSvgText, BrokenRecordIsOneLine, FrontTellsText}
 use Rattle.clear_is_clear.specs.Clear.{ClearIsClear, EveryClampTold, ElseListed}
 use Rattle.worked.specs.Case.{AllHold}
 use Rattle.worked.specs.Worked.{cases}
@@ -181,6 +182,11 @@ PiecesCoverTheCurve = (PieceKnots × SpansFollow) × PiecePoints × PiecesMeet �
 -- and a refusal leaves the list as it was
 abbrev pub PathDataWritten : Type 0
 PathDataWritten = SvgIsPathData × (SvgWithinMost × MostIsReached) × SuccessWritesText × RefusalWritesNothing
+
+-- "Out to SVG": any bytes have one text of `curvesvg`, path data and a newline or one line on the refusal; that of bytes which are no record is one line with the
+-- number and the place of their leftmost fault; and the first 10,262 bytes tell the text of longer ones
+abbrev pub DrawingProgramHasOneText : Type 0
+DrawingProgramHasOneText = SomeSvgText × OneSvgText × BrokenRecordIsOneLine × FrontTellsText
 
 -- "The record on disk": reading what was written gives the curve back, writing what was read gives the bytes back, bytes that read to one
 -- curve are equal, and a record has at most 10,261 bytes

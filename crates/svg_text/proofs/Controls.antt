@@ -2,9 +2,7 @@
 -- refused by 11; and of no bytes.
 use mathlib.Core.List.{List, [], _∷_}
 use mathlib.Core.Path.{_≡_, refl, ap}
-use Prim.Native.Char.{code}
 use Prim.Native.Nat.{ℕ}
-use Prim.Native.String.{String, [] as ended, _∷_ as _and_}
 use native.Mathlib.Omega.{arith}
 use lib.IntN.{pos}
 use lib.ListN.{length}
@@ -20,17 +18,13 @@ use Rattle.cutting.specs.Cutting.{endsFrom, lacking, insertedEach, insertableEa
 use Rattle.cutting.specs.Pieces.{fourFrom, pieceOf, pieces}
 use Rattle.path_data.specs.Text.{pairsText, segmentText, segmentsText, moveText, pathText}
 use Rattle.digits.specs.Decimal.{digitsOf, decimal}
+use Rattle.digits.specs.Quoted.{quoted}
 use Rattle.lines.specs.Lines.{oneNumber, twoNumbers}
 use Rattle.format.specs.Format.{form1, recordBytes, IsRecord}
 use Rattle.format.proofs.SizeLaws.{length-record}
 use Rattle.fault.specs.Fault.{endsEarly}
 use Rattle.round_trip.proofs.StorableLaws.{passes-storable}
 use Rattle.svg_text.specs.Text.{drawnText, SvgTextOf, isRecord, isBroken}
-
--- the bytes of a text in quotes
-abbrev bytes : String → List ℕ
-bytes ended = []
-bytes (letter and text) = code letter ∷ bytes text
 
 curveA : Lists
 curveA =
@@ -46,24 +40,24 @@ curveB y = lists (0 ∷ 0 ∷ 0 ∷ 2 ∷ 4 ∷ 4 ∷ 4 ∷ []) (pos 0 ∷ pos 4
 of-record : (m : ℕ) (c : Lists) (text : List ℕ) → Passes m (c .knots) (c .xs) (c .ys) → text ≡ drawnText m c → SvgTextOf (recordBytes form1 m c) text
 of-record m c text passes e = isRecord (record { m = m; c = c; storable = passes-storable m c passes; same = refl }) e
 
-cubic-text : SvgTextOf (recordBytes form1 3 curveA) (bytes "M 0 0 C 0 8 8 8 8 0\n")
+cubic-text : SvgTextOf (recordBytes form1 3 curveA) (quoted "M 0 0 C 0 8 8 8 8 0\n")
 unfolding drawnText curveA checkNumber cutThen insertableEachThen insertedEach lacking endsFrom highKnots keep upFrom spanCount checkedThen degreeOk pointCountOk knotCountOk risesFrom knotOrderOk allAre endsOk occurrences repeatsMost repeatsWithin repeatsOk onGrid allOnGrid rangeOk entries fourFrom pieceOf pieces pairsText segmentText segmentsText moveText pathText digitsOf decimal
-cubic-text = of-record 3 curveA (bytes "M 0 0 C 0 8 8 8 8 0\n") refl refl
+cubic-text = of-record 3 curveA (quoted "M 0 0 C 0 8 8 8 8 0\n") refl refl
 
 -- the point where it is cut is (6, 8)
-quadratics-text : SvgTextOf (recordBytes form1 2 (curveB 8)) (bytes "M 0 0 Q 4 8 6 8 Q 8 8 12 0\n")
+quadratics-text : SvgTextOf (recordBytes form1 2 (curveB 8)) (quoted "M 0 0 Q 4 8 6 8 Q 8 8 12 0\n")
 unfolding drawnText curveB checkNumber cutThen insertableEachThen insertedEach lacking endsFrom highKnots keep upFrom spanCount checkedThen degreeOk pointCountOk knotCountOk risesFrom knotOrderOk allAre endsOk occurrences repeatsMost repeatsWithin repeatsOk onGrid allOnGrid rangeOk strictlyInside divides knotsUpTo insertionSpan insertedKnots weightedSum weight insertedPoint insertedPoints wholeFrom wholePoints valueOk placeOk wholeOk insertableThen entries fourFrom pieceOf pieces pairsText segmentText segmentsText moveText pathText digitsOf decimal
-quadratics-text = of-record 2 (curveB 8) (bytes "M 0 0 Q 4 8 6 8 Q 8 8 12 0\n") refl refl
+quadratics-text = of-record 2 (curveB 8) (quoted "M 0 0 Q 4 8 6 8 Q 8 8 12 0\n") refl refl
 
 -- with (4, 7) it would be (6, 7.5)
-odd-text : SvgTextOf (recordBytes form1 2 (curveB 7)) (bytes "refused 11\n")
+odd-text : SvgTextOf (recordBytes form1 2 (curveB 7)) (quoted "refused 11\n")
 unfolding drawnText curveB checkNumber cutThen insertableEachThen insertedEach lacking endsFrom highKnots keep upFrom spanCount checkedThen degreeOk pointCountOk knotCountOk risesFrom knotOrderOk allAre endsOk occurrences repeatsMost repeatsWithin repeatsOk onGrid allOnGrid rangeOk strictlyInside divides knotsUpTo insertionSpan insertedKnots weightedSum weight insertedPoint insertedPoints wholeFrom wholePoints valueOk placeOk wholeOk insertableThen entries fourFrom pieceOf pieces pairsText segmentText segmentsText moveText pathText digitsOf decimal oneNumber
-odd-text = of-record 2 (curveB 7) (bytes "refused 11\n") refl refl
+odd-text = of-record 2 (curveB 7) (quoted "refused 11\n") refl refl
 
 -- no bytes at all end where the degree's tag is due
 no-record : IsRecord form1 [] → ⊥
 no-record w = omega (arith, ap length (w .same), length-record form1 (w .m) (w .c))
 
-empty-text : SvgTextOf [] (bytes "refused 16 at 0\n")
+empty-text : SvgTextOf [] (quoted "refused 16 at 0\n")
 unfolding curveA checkNumber checkedThen degreeOk pointCountOk knotCountOk risesFrom knotOrderOk allAre endsOk occurrences repeatsMost repeatsWithin repeatsOk onGrid allOnGrid rangeOk digitsOf decimal oneNumber twoNumbers
 empty-text = isBroken (endsEarly no-record (recordBytes form1 3 curveA, record { m = 3; c = curveA; storable = passes-storable 3 curveA refl; same = refl })) refl
