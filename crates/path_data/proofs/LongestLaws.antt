@@ -1,20 +1,23 @@
 -- The longest text: no text of a curve on the grid is longer, and one is as long.
 use mathlib.Core.List.{List, [], _∷_}
 use mathlib.Core.Path.{_≡_, refl, _∙_, ap}
-use Prim.Native.Nat.{ℕ, zero, suc, _+_, _-_, _*_, _≤_}
-use native.Mathlib.Nat.{suc-mul, mul-add, mul-left-comm, mul-le-mul-left}
+use Prim.Native.Nat.{ℕ, zero, suc, _+_, _-_, _*_, _≤_, _<_}
+use native.Mathlib.Nat.{mul-add, mul-left-comm, mul-le-mul-left}
 use native.Mathlib.Omega.{arith}
 use lib.IntN.{ℤ, pos, negsuc}
-use lib.ListN.{length, replicate, length-append, length-replicate}
+use lib.ListN.{length, length-append}
 use Rattle.grid.specs.Limits.{pointsMost, coordinateMost, numberBytesMost, pairBytesMost}
 use Rattle.grid.specs.Rows.{onGrid}
 use Rattle.checked.specs.Checked.{OnGrid}
 use Rattle.checked.proofs.GridLaws.{onGrid-facts}
 use Rattle.digits.specs.Decimal.{digitsOf, decimal}
+use Rattle.insertion.specs.Insertion.{pointAt, entries}
+use Rattle.insertion.proofs.EntryLaws.{entries-length}
 use Rattle.cutting.specs.declared.Piece.{Piece}
-use Rattle.path_data.specs.Text.{numberText, pairText, pairsText, segmentText, segmentsText, moveText, pathText}
-use Rattle.path_data.specs.Sentences.{PieceOnGrid, EachOnGrid, none, more, OfCurve, TextWithinMost, MostIsReached}
-use Rattle.path_data.proofs.LengthLaws.{pairText-length, pathText-most}
+use Rattle.path_data.specs.Text.{numberText, pairText, pairsText, segmentText, moveText, pathText, partText}
+use Rattle.path_data.specs.Sentences.{PieceOnGrid, OfCurve, TextWithinMost, MostIsReached}
+use Rattle.path_data.proofs.LengthLaws.{pairText-length, pathText-most, entries-on-grid}
+use Rattle.path_data.proofs.TextLaws.{partText-first, partText-later, entries-text}
 
 -- a piece of degree m has m points of its own, and one letter for all of them: with m = 1 the letters are the most
 pub text-within-most : TextWithinMost
@@ -23,36 +26,13 @@ text-within-most m ps c =
     let spread : count * (2 + pairBytesMost * m) ≡ count * 2 + pairBytesMost * (count * m) = mul-add count 2 (pairBytesMost * m) ∙ ap (λ (n : ℕ). count * 2 + n) (mul-left-comm count pairBytesMost m) in
     omega (arith, pathText-most m (c .grid), spread, mul-le-mul-left count (c .degree), c .points)
 
--- equal pieces
-module _ (m : ℕ) (p : Piece) where
-  replicate-length : (n : ℕ) → length (segmentsText m (replicate n p)) ≡ n * length (segmentText m p)
-  unfolding segmentsText
-  replicate-length zero = omega arith
-  replicate-length (suc n) =
-      omega (arith, suc-mul n (length (segmentText m p)), length-append (segmentText m p) (segmentsText m (replicate n p)), replicate-length n)
-
-  replicate-on-grid : (n : ℕ) → PieceOnGrid m p → EachOnGrid m (replicate n p)
-  replicate-on-grid zero g = none
-  replicate-on-grid (suc n) g = more p (replicate n p) g (replicate-on-grid n g)
-
--- a piece of degree 1 that stands at the low end of the grid, where numbers are longest
-abbrev lowest : ℤ
+-- the low end of the grid, where numbers are longest
+abbrev pub lowest : ℤ
 lowest = negsuc (coordinateMost - 1)
 
-abbrev farthest : List ℤ
-farthest = lowest ∷ lowest ∷ pos 0 ∷ pos 0 ∷ []
-
-abbrev farthestPiece : Piece
-farthestPiece = record { low = 0; high = 1; xs = farthest; ys = farthest }
-
-lowest-on-grid : OnGrid lowest
+pub lowest-on-grid : OnGrid lowest
 unfolding onGrid
 lowest-on-grid = onGrid-facts lowest refl
-
-farthest-on-grid : PieceOnGrid 1 farthestPiece
-farthest-on-grid zero h = (lowest-on-grid, lowest-on-grid)
-farthest-on-grid (suc zero) h = (lowest-on-grid, lowest-on-grid)
-farthest-on-grid (suc (suc a)) h = absurd (omega arith)
 
 -- "-262144", " -262144 -262144"
 farthest-number : length (numberText lowest) ≡ numberBytesMost
@@ -62,38 +42,79 @@ farthest-number = refl
 farthest-pair : length (pairText lowest lowest) ≡ pairBytesMost
 farthest-pair = omega (arith, pairText-length lowest lowest, farthest-number)
 
-farthest-move : length (moveText farthestPiece) ≡ 1 + pairBytesMost
-unfolding moveText
-farthest-move = omega (arith, farthest-pair)
+-- a piece of degree 1 whose points stand there
+pub record Farthest (p : Piece) : Type 0 where
+  pub onX : (a : ℕ) → a ≤ 1 → pointAt (p .xs) a ≡ lowest
+  pub onY : (a : ℕ) → a ≤ 1 → pointAt (p .ys) a ≡ lowest
 
-farthest-segment : length (segmentText 1 farthestPiece) ≡ 2 + pairBytesMost
-unfolding segmentText pairsText
-farthest-segment =
-    omega (arith, length-append (pairText lowest lowest) [], farthest-pair)
+module _ (p : Piece) (far : Farthest p) where
+  farthest-on-grid : PieceOnGrid 1 p
+  farthest-on-grid a h = (rw (far .onX a h) lowest-on-grid, rw (far .onY a h) lowest-on-grid)
 
--- some of them, as many as a curve can have: told over their number, so that no list of a thousand pieces is ever written out
-module _ (n : ℕ) where
-  farthest-path : length (pathText 1 (replicate (suc n) farthestPiece)) ≡ (1 + pairBytesMost) + suc n * (2 + pairBytesMost)
-  unfolding pathText
-  farthest-path =
+  point-length : (a : ℕ) → a ≤ 1 → length (pairText (pointAt (p .xs) a) (pointAt (p .ys) a)) ≡ pairBytesMost
+  point-length a h = rw (far .onX a h, far .onY a h) farthest-pair
+
+  farthest-move : length (moveText p) ≡ 1 + pairBytesMost
+  unfolding moveText
+  farthest-move = omega (arith, point-length 0 (omega arith))
+
+  farthest-segment : length (segmentText 1 p) ≡ 2 + pairBytesMost
+  unfolding segmentText pairsText
+  farthest-segment = omega (arith, length-append (pairText (pointAt (p .xs) 1) (pointAt (p .ys) 1)) [], point-length 1 (omega arith))
+
+-- some of them: told over their number, so that no list of a thousand pieces is ever written out
+module _ (f : ℕ → Piece) where
+  -- what the last of them adds
+  added : (n : ℕ) → length (pathText 1 (entries f (suc n))) ≡ length (pathText 1 (entries f n)) + length (partText 1 n (f n))
+  added n = ap length (entries-text 1 f n) ∙ length-append (pathText 1 (entries f n)) (partText 1 n (f n))
+
+  pub farthest-path : (n : ℕ) → ((k : ℕ) → k ≤ n → Farthest (f k)) → length (pathText 1 (entries f (suc n))) ≡ (1 + pairBytesMost) + suc n * (2 + pairBytesMost)
+  unfolding pathText entries
+  farthest-path zero far =
       omega (
         arith,
-        length-append (moveText farthestPiece) (segmentsText 1 (replicate (suc n) farthestPiece)),
-        farthest-move,
-        replicate-length 1 farthestPiece (suc n),
-        ap (λ (k : ℕ). suc n * k) farthest-segment,
+        added 0,
+        ap length (partText-first 1 (f 0)),
+        length-append (moveText (f 0)) (segmentText 1 (f 0)),
+        farthest-move (f 0) (far 0 (omega arith)),
+        farthest-segment (f 0) (far 0 (omega arith)),
+      )
+  farthest-path (suc n) far =
+      omega (
+        arith,
+        added (suc n),
+        farthest-path n (λ k h. far k (omega arith)),
+        ap length (partText-later 1 (suc n) (f (suc n)) (omega arith)),
+        farthest-segment (f (suc n)) (far (suc n) (omega arith)),
       )
 
-  farthest-of-curve : suc n + 1 ≤ pointsMost → OfCurve 1 (replicate (suc n) farthestPiece)
-  farthest-of-curve h =
+  farthest-of-curve : (n : ℕ) → ((k : ℕ) → k < n → Farthest (f k)) → n + 1 ≤ pointsMost → OfCurve 1 (entries f n)
+  farthest-of-curve n far h =
       record {
         degree = omega arith;
-        points = omega (arith, length-replicate (suc n) farthestPiece);
-        grid = replicate-on-grid 1 farthestPiece (suc n) farthest-on-grid;
+        points = omega (arith, entries-length f n);
+        grid = entries-on-grid 1 f n (λ k l. farthest-on-grid (f k) (far k l));
       }
 
-  reached : suc n + 1 ≤ pointsMost → (m : ℕ) × (ps : List Piece) × OfCurve m ps × (length (pathText m ps) ≡ (1 + pairBytesMost) + suc n * (2 + pairBytesMost))
-  reached h = (1, replicate (suc n) farthestPiece, farthest-of-curve h, farthest-path)
+-- equal ones, as many as a curve can have
+abbrev farthestPoints : List ℤ
+farthestPoints = lowest ∷ lowest ∷ pos 0 ∷ pos 0 ∷ []
+
+abbrev farthestPiece : Piece
+farthestPiece = record { low = 0; high = 1; xs = farthestPoints; ys = farthestPoints }
+
+both-lowest : (a : ℕ) → a ≤ 1 → pointAt farthestPoints a ≡ lowest
+both-lowest zero h = refl
+both-lowest (suc zero) h = refl
+both-lowest (suc (suc a)) h = absurd (omega arith)
+
+farthest-piece : Farthest farthestPiece
+farthest-piece = record { onX = both-lowest; onY = both-lowest }
+
+reached : (n : ℕ) → suc n + 1 ≤ pointsMost → (m : ℕ) × (ps : List Piece) × OfCurve m ps × (length (pathText m ps) ≡ (1 + pairBytesMost) + suc n * (2 + pairBytesMost))
+reached n h =
+    let f : ℕ → Piece = λ k. farthestPiece in
+    (1, entries f (suc n), farthest-of-curve f (suc n) (λ k l. farthest-piece) h, farthest-path f n (λ k l. farthest-piece))
 
 pub most-is-reached : MostIsReached
 most-is-reached = reached (pointsMost - 2) (omega arith)

@@ -11,7 +11,7 @@ use Rattle.curve.proofs.RoomLaws.{enough-all}
 use Rattle.grid.specs.Check.{checkNumber}
 use Rattle.grid.specs.Limits.{recordMost}
 use Rattle.grid.proofs.SizeLaws.{sizes-of-passes}
-use Rattle.format.specs.Format.{form1, Storable, IsRecord}
+use Rattle.format.specs.Format.{form1, Storable}
 use Rattle.format.proofs.SizeLaws.{length-knots, length-coordinates}
 use Rattle.fault.specs.Fault.{Fault}
 use Rattle.fault.specs.Kinds.{loneRecords}

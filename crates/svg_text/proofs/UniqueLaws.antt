@@ -1,10 +1,10 @@
 -- Bytes have one text, and the first of them tell it where there are more than a record can have.
 use mathlib.Core.List.{List}
 use mathlib.Core.Logic.{_⊎_, inl, inr}
-use mathlib.Core.Path.{_≡_, refl, sym, _∙_}
+use mathlib.Core.Path.{refl, sym, _∙_}
 use Prim.Native.Nat.{ℕ, _+_}
 use native.Mathlib.Omega.{arith}
-use lib.ListN.{length, take}
+use lib.ListN.{take}
 use lib.Seq.{length-take-le}
 use Rattle.grid.specs.Limits.{recordMost}
 use Rattle.format.specs.Format.{form1, IsRecord}

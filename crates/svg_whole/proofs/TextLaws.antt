@@ -16,7 +16,7 @@ use Rattle.cutting.specs.declared.Piece.{Piece}
 use Rattle.cut_whole.proofs.SentenceLaws.{cut-passes, cut-sizes, spans-follow}
 use Rattle.path_data.specs.Grammar.{svgPath}
 use Rattle.path_data.specs.Text.{pathText}
-use Rattle.path_data.specs.Sentences.{PieceOnGrid, EachOnGrid, OfCurve}
+use Rattle.path_data.specs.Sentences.{EachOnGrid, OfCurve}
 use Rattle.path_data.proofs.GrammarLaws.{text-is-path-data}
 use Rattle.path_data.proofs.LengthLaws.{entries-on-grid}
 use Rattle.path_data.proofs.LongestLaws.{text-within-most}

@@ -16,3 +16,7 @@ SvgIsPathData = (m : ℕ) (c : Lists) → cutNumber m c ≡ accepted → svgPath
 -- no curve's is longer than the longest
 abbrev pub SvgWithinMost : Type 0
 SvgWithinMost = (m : ℕ) (c : Lists) → cutNumber m c ≡ accepted → length (svgText m c) ≤ svgMost
+
+-- and some curve's is as long
+abbrev pub SvgMostReached : Type 0
+SvgMostReached = (m : ℕ) × (c : Lists) × (cutNumber m c ≡ accepted) × (length (svgText m c) ≡ svgMost)
