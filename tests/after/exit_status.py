@@ -1,6 +1,6 @@
-"""tools/clampcheck and tools/try.sh with the built program: each status on real jobs, and the text passed on as it is.
+"""tools/clampcheck, tools/curvesvg, tools/try.sh and tools/draw.py with the built programs: each status on real jobs, and the text passed on as it is.
 
-tests/before/tools_status.py tries the same with programs that die, print nothing, half a line or something else.
+tests/before/tools_status.py and tools_curvesvg.py try the same with programs that die, print nothing, half a line or something else.
 """
 
 import pathlib
@@ -12,13 +12,15 @@ sys.dont_write_bytecode = True
 sys.path[:0] = [str(pathlib.Path(__file__).resolve().parents[1])]
 
 from pretended import TOP, Folder  # noqa: E402
-from second_program.broken_cases import broken_jobs  # noqa: E402
+from harness.told_path import curvesvg_text  # noqa: E402
+from second_program.broken_cases import broken_jobs, broken_records  # noqa: E402
 from second_program.broken_radii import broken_radii  # noqa: E402
 from second_program.curve import Curve  # noqa: E402
+from second_program.cut_curves import large_curve, moved, whole_curve  # noqa: E402
 from second_program.dice import Dice  # noqa: E402
 from second_program.job_cases import damaged_job, good_job, job_of, longest_job, with_bad_clamp  # noqa: E402
 from second_program.random_curves import spoiled_curve  # noqa: E402
-from second_program.record import PLACED, clampcheck_text, record_of  # noqa: E402
+from second_program.record import PLACED, Fault, clampcheck_text, record_of, take_job  # noqa: E402
 
 CURVE = Curve(3, [0, 0, 0, 0, 4, 4, 4, 4], [0, 0, 8, 8], [0, 8, 8, 0])
 
@@ -48,53 +50,90 @@ def jobs():
         yield "damaged job %d" % k, damaged_job(dice)
 
 
+def curves():
+    """Records with names, alone and in jobs, of every refusal: curves that can be cut and that cannot, and bytes that are no record."""
+    dice = Dice(98)
+    for k in range(9):
+        curve = whole_curve(dice, 1 + k % 3)
+        yield "curve %d" % k, record_of(curve) if k % 2 else job_of(curve, [(0, 1, 0, 1)] * k, 150)
+        yield "curve %d, a point moved" % k, record_of(moved(dice, curve))
+    for k in range(1, 8):
+        yield "refusal %d" % k, record_of(spoiled_curve(dice, k, byte=True))
+    yield "a point between grid lines", record_of(Curve(2, [0, 0, 0, 2, 4, 4, 4], [0, 4, 8, 12], [0, 7, 8, 0]))
+    yield "a full curve", record_of(large_curve(dice, 3, 341, 1024))
+    yield "a curve that gets full", record_of(large_curve(dice, 2, 510, 1023))
+    yield "the longest job", longest_job(Dice(7))
+    yield "one byte more", longest_job(Dice(7)) + b"\5"
+    yield "a clamp behind a record", record_of(CURVE) + job_of(CURVE, [(9, 12, 0, 4)])[66:]
+    yield "no bytes", b""
+    for number, place, record in list(broken_records(dice))[::29]:
+        yield "record with fault %d at %d" % (number, place), record
+
+
 def right(job):
-    """The status and the text that the second program tells."""
+    """The status and the text that the second program tells of clampcheck."""
     number, text = clampcheck_text(job)
     return 2 if number else 1 if "may meet" in text else 0, text
 
 
-def real():
+def right_path(data):
+    """The same of curvesvg on the record in a job, or on all of what is no job."""
+    try:
+        data = record_of(take_job(data)[0])
+    except Fault:
+        pass
+    number, text = curvesvg_text(data)
+    return 2 if number else 0, text
+
+
+def real(tool, files, told):
+    """Each file has its status and its text; the statuses and the numbers of refusal that were met."""
     seen = set()
-    for name, job in jobs():
-        status, text = right(job)
-        ended = subprocess.run([TOP / "tools" / "clampcheck"], input=job, capture_output=True, timeout=60)
+    for name, data in files:
+        status, text = told(data)
+        ended = subprocess.run([TOP / "tools" / tool], input=data, capture_output=True, timeout=60)
         assert (ended.returncode, ended.stdout.decode()) == (status, text), "%s: %r" % (name, ended)
         assert (status == 2) == ended.stderr.startswith(text.encode()[:-1] + b": "), "%s: %r" % (name, ended.stderr)
-        seen |= {status, clampcheck_text(job)[0]}
-    assert seen >= {0, 1, 2, 22, *PLACED}, "a status or a refusal is not reached: %s" % seen
-    missing = subprocess.run([TOP / "tools" / "clampcheck", "/nowhere/sign.job"], capture_output=True)
+        seen |= {status, int(text.split()[1]) if status == 2 else 0}
+    missing = subprocess.run([TOP / "tools" / tool, "/nowhere/sign.job"], capture_output=True)
     assert missing.returncode == 3 and not missing.stdout, "a missing file: %r" % missing
+    return seen
 
 
 def unbuilt():
     """Beside a copy of the tools there is no program."""
     with tempfile.TemporaryDirectory() as place:
-        ended = Folder(place).run("tools/clampcheck", "examples/sign.job")
-        assert ended.returncode == 3 and b"is not there" in ended.stderr, ended
+        folder = Folder(place)
+        for tool in ("tools/clampcheck", "tools/curvesvg"):
+            ended = folder.run(tool, "examples/sign.job")
+            assert ended.returncode == 3 and b"is not there" in ended.stderr, ended
 
 
-def tried():
+def tried(name, told, *words):
     """What is proved already is told crate by crate, to the last."""
-    ended = subprocess.run([TOP / "tools" / "try.sh"], capture_output=True, timeout=600)
-    told = [line for line in ended.stderr.decode().splitlines() if line.startswith("proved ")]
-    counts = [line.split("(")[1].rstrip(")").split(" of ") for line in told]
-    assert [int(count) for count, _ in counts] == list(range(1, len(told) + 1)), "crates are left out: %s" % told
-    assert told and {int(whole) for _, whole in counts} == {len(told)} and told[-1].startswith("proved clampcheck "), told
+    ended = subprocess.run([TOP / "tools" / "try.sh", *words], capture_output=True, timeout=600)
+    lines = [line for line in ended.stderr.decode().splitlines() if line.startswith("proved ")]
+    counts = [line.split("(")[1].rstrip(")").split(" of ") for line in lines]
+    assert [int(count) for count, _ in counts] == list(range(1, len(lines) + 1)), "crates are left out: %s" % lines
+    assert lines and {int(whole) for _, whole in counts} == {len(lines)} and lines[-1].startswith("proved %s " % name), lines
     sample = (TOP / "examples" / "sign.job").read_bytes()
-    assert (ended.returncode, ended.stdout.decode()) == (0, clampcheck_text(sample)[1]), ended
+    assert (ended.returncode, ended.stdout.decode()) == (0, told(sample)[1]), ended
 
 
 def drawn():
-    """tools/draw.py runs the program itself."""
+    """tools/draw.py runs both programs itself."""
     with tempfile.TemporaryDirectory() as place:
         made = pathlib.Path(place, "sign.svg")
         subprocess.run([sys.executable, "-B", TOP / "tools" / "draw.py", TOP / "examples" / "sign.job", made], check=True, timeout=60)
         assert made.read_bytes() == (TOP / "examples" / "sign.svg").read_bytes(), "the picture is another one"
 
 
-real()
+met = real("clampcheck", jobs(), right)
+assert met >= {0, 1, 2, 22, *PLACED}, "a status or a refusal of clampcheck is not reached: %s" % met
+met = real("curvesvg", curves(), right_path)
+assert met >= {0, 1, 2, 3, 4, 5, 6, 7, 10, 11, *PLACED}, "a status or a refusal of curvesvg is not reached: %s" % met
 unbuilt()
-tried()
+tried("clampcheck", right)
+tried("curvesvg", right_path, "--svg")
 drawn()
-print("tools/clampcheck: %d jobs, a missing file and a missing program" % len(list(jobs())))
+print("tools/clampcheck: %d jobs; tools/curvesvg: %d curves; missing files and programs" % (len(list(jobs())), len(list(curves()))))
