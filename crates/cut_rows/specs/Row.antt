@@ -1,7 +1,7 @@
 -- A row, one axis of a span that becomes a piece: four places, of which the first m + 1 hold the points that carry the span. Its low knot stands m times,
 -- its high knot v stands `full` times, and behind the row's place k the knot is entry at + k of `ts`.
 use mathlib.Core.Bool.{Bool, true, false}
-use mathlib.Core.List.{List, [], _∷_}
+use mathlib.Core.List.{List}
 use mathlib.Core.Path.{_≡_}
 use Prim.Native.Nat.{ℕ, suc, _+_, _-_, _≤_, _<_}
 use lib.IntN.{ℤ, pos, natAbs, _+ℤ_, _*ℤ_}

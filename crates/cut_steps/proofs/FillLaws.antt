@@ -1,8 +1,7 @@
 -- None, one or two insertions until the high knot stands m times.
-use mathlib.Core.Path.{_≡_, refl, sym, ap, subst, _∙_}
-use Prim.Native.Nat.{ℕ, zero, suc, _+_, _-_, _≤_, _<_}
+use mathlib.Core.Path.{_≡_, sym, _∙_}
+use Prim.Native.Nat.{ℕ, zero, suc, _+_, _-_, _≤_}
 use native.Mathlib.Omega.{arith}
-use lib.ListN.{replicate}
 use Rattle.curve.specs.Lists.{Lists}
 use Rattle.grid.proofs.SizeLaws.{sizes-of-passes}
 use Rattle.refusal.specs.Numbers.{accepted}

@@ -1,16 +1,14 @@
 -- Why an insertion at a span is refused, or what it gives: in the words of inserting into the whole curve.
-use mathlib.Core.Bool.{Bool, true, false}
-use mathlib.Core.List.{List}
-use mathlib.Core.Path.{_≡_, refl, sym, ap, _∙_}
-use Prim.Native.Nat.{ℕ, zero, suc, _+_, _-_, _≤_, _<_}
+use mathlib.Core.Bool.{true, false}
+use mathlib.Core.Path.{_≡_, _∙_}
+use Prim.Native.Nat.{ℕ, _+_, _-_, _≤_, _<_}
 use native.Mathlib.Omega.{arith}
-use lib.IntN.{ℤ}
 use lib.ListN.{length, getD}
 use borrow.Author.Tests.{le-ltb, lt-ltb}
 use Rattle.curve.specs.Lists.{Lists}
 use Rattle.refusal.specs.Numbers.{accepted, fullRefused, notWholeRefused}
 use Rattle.grid.specs.Limits.{pointsMost}
-use Rattle.insertion.specs.Insertion.{inserted, insertedPoints, wholePoints}
+use Rattle.insertion.specs.Insertion.{wholePoints}
 use Rattle.insertion.specs.Judged.{valueOk, placeOk, wholeOk}
 use Rattle.insertion.proofs.JudgedLaws.{judged-place, judged-whole, judged-next}
 use Rattle.insertion.proofs.PointLaws.{insertedPoints-length}
@@ -18,7 +16,6 @@ use Rattle.cut_rows.specs.Row.{RowStands, WholeOutcome}
 use Rattle.cut_window.proofs.KnotLaws.{on-x, on-y, value-ok}
 use Rattle.cut_window.proofs.AxisLaws.{row-stands, whole-row-whole, broken-row-broken, row-steps, behind-steps}
 use Rattle.cut_window.proofs.StepLaws.{window-steps}
-use Rattle.cut_steps.specs.declared.Axis.{Axis}
 use Rattle.cut_steps.specs.declared.Cut.{Cut}
 use Rattle.cut_steps.specs.Step.{CutStands, AxisSteps, Steps, highOf}
 

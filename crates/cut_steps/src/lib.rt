@@ -4,7 +4,6 @@ ghost use mathlib.Core.List.{List};
 ghost use Prim.Native.Nat.{ℕ, _+_, _≤_, _<_};
 ghost use lib.IntN.{ℤ};
 ghost use Rattle.curve.specs.Lists.{Lists, lists};
-ghost use Rattle.insertion.specs.Insertion.{pointAt};
 ghost use Rattle.cut_rows.specs.Row.{RowStands, WholeOutcome};
 ghost use Rattle.cut_steps.specs.Step.{AxisSteps, CutStands, Possible, Steps, Fills};
 

@@ -1,7 +1,7 @@
 -- One axis of a curve that is being cut: the points that an insertion makes, from the row that holds those of its span.
 use mathlib.Core.Bool.{Bool, true, false, true≢false}
 use mathlib.Core.List.{List, [], _∷_}
-use mathlib.Core.Path.{_≡_, refl, sym, ap, ap₂, _∙_}
+use mathlib.Core.Path.{_≡_, refl, sym, ap, _∙_}
 use Prim.Native.Nat.{ℕ, zero, suc, _+_, _-_, _*_, _≤_, _<_}
 use native.Mathlib.Omega.{arith}
 use native.Mathlib.Decide.{decLe}
@@ -14,7 +14,7 @@ use Rattle.grid.specs.Limits.{coordinateMost}
 use Rattle.grid.specs.Sizes.{Sizes}
 use Rattle.grid.proofs.SizeLaws.{sizes-of-passes}
 use Rattle.checked.proofs.CheckedLaws.{checked-of-passes}
-use Rattle.insertion.specs.Insertion.{pointAt, insertionSpan, weightedSum, weight, insertedPoint, insertedPoints, wholePoints}
+use Rattle.insertion.specs.Insertion.{pointAt, insertionSpan, weightedSum, weight, insertedPoints, wholePoints}
 use Rattle.insertion.specs.Standing.{Insertable}
 use Rattle.insertion.proofs.QuotientLaws.{sum-natural, weight-natural}
 use Rattle.insertion.proofs.KnownLaws.{quotient-whole, quotient-is, quotient-old}

@@ -1,17 +1,13 @@
 -- The knots of a curve that is being cut: the high knot of its span goes in behind those of its value, and it is not refused for its value.
 use mathlib.Core.Bool.{true}
-use mathlib.Core.List.{List}
 use mathlib.Core.Path.{_≡_, sym, ap, _∙_}
-use Prim.Native.Nat.{ℕ, zero, suc, _+_, _-_, _*_, _≤_, _<_}
+use Prim.Native.Nat.{ℕ, suc, _+_, _-_, _*_, _≤_, _<_}
 use native.Mathlib.Omega.{arith}
 use native.Mathlib.Decide.{decLe}
-use lib.Dec.{leb}
-use lib.IntN.{ℤ}
 use lib.ListN.{length, getD}
 use borrow.Author.Tests.{ne-eqb}
 use Rattle.curve.specs.Lists.{Lists}
-use Rattle.grid.specs.Rows.{occurrences, knotOrderOk}
-use Rattle.grid.specs.Check.{Passes}
+use Rattle.grid.specs.Rows.{knotOrderOk}
 use Rattle.grid.specs.Sizes.{Sizes}
 use Rattle.grid.proofs.SizeLaws.{sizes-of-passes}
 use Rattle.grid.proofs.CheckLaws.{passes-tests}

@@ -1,19 +1,17 @@
 -- A curve that is being cut, an insertion further, and with a value full, at the next span.
-use mathlib.Core.Bool.{Bool, true, false}
+use mathlib.Core.Bool.{true}
 use mathlib.Core.List.{List}
 use mathlib.Core.Path.{_≡_, sym, ap, _∙_}
 use Prim.Native.Nat.{ℕ, zero, suc, _+_, _-_, _*_, _≤_, _<_}
 use native.Mathlib.Nat.{suc-mul}
 use native.Mathlib.Omega.{arith}
 use lib.IntN.{ℤ, pos}
-use lib.ListN.{length, getD}
+use lib.ListN.{getD}
 use Rattle.curve.specs.Lists.{Lists}
-use Rattle.curve.specs.HandingOver.{roomFor}
 use Rattle.curve.proofs.SentenceLaws.{room-exactly}
 use Rattle.grid.specs.Check.{Passes}
-use Rattle.grid.specs.Limits.{pointsMost}
-use Rattle.insertion.specs.Insertion.{pointAt, inserted, insertedKnots, insertedPoints}
-use Rattle.insertion.specs.Judged.{placeOk, wholeOk, insertionNumber, insertableThen}
+use Rattle.insertion.specs.Insertion.{pointAt, inserted}
+use Rattle.insertion.specs.Judged.{placeOk, wholeOk}
 use Rattle.insertion.proofs.JudgedLaws.{number-of-accepted}
 use Rattle.insertion.proofs.PointLaws.{insertedPoints-length}
 use Rattle.insertion.proofs.ResultLaws.{inserted-passes}

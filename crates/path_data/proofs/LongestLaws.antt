@@ -1,22 +1,21 @@
 -- The longest text: no text of a curve on the grid is longer, and one is as long.
-use mathlib.Core.List.{List, [], _∷_}
+use mathlib.Core.List.{[]}
 use mathlib.Core.Path.{_≡_, refl, _∙_, ap}
-use Prim.Native.Nat.{ℕ, zero, suc, _+_, _-_, _*_, _≤_, _<_}
+use Prim.Native.Nat.{ℕ, zero, suc, _+_, _-_, _*_, _≤_}
 use native.Mathlib.Nat.{mul-add, mul-left-comm, mul-le-mul-left}
 use native.Mathlib.Omega.{arith}
-use lib.IntN.{ℤ, pos, negsuc}
+use lib.IntN.{ℤ, negsuc}
 use lib.ListN.{length, length-append}
-use Rattle.grid.specs.Limits.{pointsMost, coordinateMost, numberBytesMost, pairBytesMost}
+use Rattle.grid.specs.Limits.{coordinateMost, numberBytesMost, pairBytesMost}
 use Rattle.grid.specs.Rows.{onGrid}
 use Rattle.checked.specs.Checked.{OnGrid}
 use Rattle.checked.proofs.GridLaws.{onGrid-facts}
 use Rattle.digits.specs.Decimal.{digitsOf, decimal}
 use Rattle.insertion.specs.Insertion.{pointAt, entries}
-use Rattle.insertion.proofs.EntryLaws.{entries-length}
 use Rattle.cutting.specs.declared.Piece.{Piece}
 use Rattle.path_data.specs.Text.{numberText, pairText, pairsText, segmentText, moveText, pathText, partText}
-use Rattle.path_data.specs.Sentences.{PieceOnGrid, OfCurve, TextWithinMost, MostIsReached}
-use Rattle.path_data.proofs.LengthLaws.{pairText-length, pathText-most, entries-on-grid}
+use Rattle.path_data.specs.Sentences.{TextWithinMost}
+use Rattle.path_data.proofs.LengthLaws.{pairText-length, pathText-most}
 use Rattle.path_data.proofs.TextLaws.{partText-first, partText-later, entries-text}
 
 -- a piece of degree m has m points of its own, and one letter for all of them: with m = 1 the letters are the most
@@ -48,9 +47,6 @@ pub record Farthest (p : Piece) : Type 0 where
   pub onY : (a : ℕ) → a ≤ 1 → pointAt (p .ys) a ≡ lowest
 
 module _ (p : Piece) (far : Farthest p) where
-  farthest-on-grid : PieceOnGrid 1 p
-  farthest-on-grid a h = (rw (far .onX a h) lowest-on-grid, rw (far .onY a h) lowest-on-grid)
-
   point-length : (a : ℕ) → a ≤ 1 → length (pairText (pointAt (p .xs) a) (pointAt (p .ys) a)) ≡ pairBytesMost
   point-length a h = rw (far .onX a h, far .onY a h) farthest-pair
 
@@ -87,34 +83,3 @@ module _ (f : ℕ → Piece) where
         ap length (partText-later 1 (suc n) (f (suc n)) (omega arith)),
         farthest-segment (f (suc n)) (far (suc n) (omega arith)),
       )
-
-  farthest-of-curve : (n : ℕ) → ((k : ℕ) → k < n → Farthest (f k)) → n + 1 ≤ pointsMost → OfCurve 1 (entries f n)
-  farthest-of-curve n far h =
-      record {
-        degree = omega arith;
-        points = omega (arith, entries-length f n);
-        grid = entries-on-grid 1 f n (λ k l. farthest-on-grid (f k) (far k l));
-      }
-
--- equal ones, as many as a curve can have
-abbrev farthestPoints : List ℤ
-farthestPoints = lowest ∷ lowest ∷ pos 0 ∷ pos 0 ∷ []
-
-abbrev farthestPiece : Piece
-farthestPiece = record { low = 0; high = 1; xs = farthestPoints; ys = farthestPoints }
-
-both-lowest : (a : ℕ) → a ≤ 1 → pointAt farthestPoints a ≡ lowest
-both-lowest zero h = refl
-both-lowest (suc zero) h = refl
-both-lowest (suc (suc a)) h = absurd (omega arith)
-
-farthest-piece : Farthest farthestPiece
-farthest-piece = record { onX = both-lowest; onY = both-lowest }
-
-reached : (n : ℕ) → suc n + 1 ≤ pointsMost → (m : ℕ) × (ps : List Piece) × OfCurve m ps × (length (pathText m ps) ≡ (1 + pairBytesMost) + suc n * (2 + pairBytesMost))
-reached n h =
-    let f : ℕ → Piece = λ k. farthestPiece in
-    (1, entries f (suc n), farthest-of-curve f (suc n) (λ k l. farthest-piece) h, farthest-path f n (λ k l. farthest-piece))
-
-pub most-is-reached : MostIsReached
-most-is-reached = reached (pointsMost - 2) (omega arith)

@@ -1,6 +1,5 @@
 -- What is promised of the text of path data (heading "Out to SVG").
 use mathlib.Core.List.{List, [], _∷_}
-use mathlib.Core.Path.{_≡_}
 use Prim.Native.Nat.{ℕ, _+_, _*_, _≤_}
 use lib.ListN.{length}
 use Rattle.grid.specs.Limits.{pointsMost, svgMost}
@@ -32,7 +31,3 @@ pub record OfCurve (m : ℕ) (ps : List Piece) : Type 0 where
 -- their text is no longer than the longest one
 abbrev pub TextWithinMost : Type 0
 TextWithinMost = (m : ℕ) (ps : List Piece) → OfCurve m ps → length (pathText m ps) ≤ svgMost
-
--- and some text is as long
-abbrev pub MostIsReached : Type 0
-MostIsReached = (m : ℕ) × (ps : List Piece) × OfCurve m ps × (length (pathText m ps) ≡ svgMost)

@@ -1,31 +1,18 @@
 -- The piece that a walk hands out is the one of the curve as far as it is cut, and the pieces before it stay what they were.
-use mathlib.Core.Bool.{true, false, cond}
+use mathlib.Core.Bool.{cond}
 use mathlib.Core.List.{List, [], _∷_}
-use mathlib.Core.Path.{_≡_, refl, sym, ap, ap₂, _∙_}
-use Prim.Native.Nat.{ℕ, zero, suc, _+_, _-_, _*_, _≤_, _<_}
+use mathlib.Core.Path.{_≡_, sym, _∙_}
+use Prim.Native.Nat.{ℕ, _+_, _-_, _*_, _<_}
 use native.Mathlib.Decide.{decLe}
-use native.Mathlib.Nat.{suc-mul, mul-le-mul-right}
 use native.Mathlib.Omega.{arith}
 use lib.Dec.{leb}
 use lib.IntN.{ℤ, pos}
-use lib.ListN.{length, getD, replicate}
+use lib.ListN.{length, getD}
 use borrow.Author.Tests.{le-leb, lt-leb}
-use Rattle.refusal.specs.Numbers.{accepted}
 use Rattle.curve.specs.Lists.{Lists}
-use Rattle.grid.specs.Check.{Passes}
 use Rattle.grid.proofs.SizeLaws.{sizes-of-passes}
-use Rattle.insertion.specs.Insertion.{pointAt, entries, inserted, insertionSpan, insertedKnots, insertedPoints, knotsUpTo}
-use Rattle.insertion.specs.Standing.{Insertable}
-use Rattle.insertion.proofs.EntryLaws.{entries-at}
-use Rattle.insertion.specs.Judged.{insertionNumber}
-use Rattle.insertion.proofs.KnotLaws.{insertedKnots-before, insertedKnots-length}
-use Rattle.insertion.proofs.PointLaws.{point-left, insertedPoints-at}
-use Rattle.insertion.proofs.ResultLaws.{accepted-xs, accepted-ys, inserted-passes}
-use Rattle.insertion.proofs.SpanLaws.{span-least, span-most, span-high, upTo-least}
-use Rattle.cutting.specs.declared.Piece.{Piece}
-use Rattle.cutting.specs.Cutting.{insertedEach, insertableEachThen}
+use Rattle.insertion.specs.Insertion.{pointAt, entries}
 use Rattle.cutting.specs.Pieces.{fourFrom, pieceOf}
-use Rattle.cutting.proofs.EachLaws.{first-passed, inserts-just}
 use Rattle.cut_window.specs.Window.{Window, Carried}
 
 -- four places by their entries

@@ -1,12 +1,12 @@
 -- A walk at the first span: nothing is inserted yet.
 use mathlib.Core.List.{List}
-use mathlib.Core.Path.{_≡_, refl, sym, ap, subst, _∙_}
-use Prim.Native.Nat.{ℕ, zero, suc, _+_, _-_, _*_, _≤_, _<_}
+use mathlib.Core.Path.{_≡_, sym, ap, subst, _∙_}
+use Prim.Native.Nat.{ℕ, _+_, _-_, _*_}
 use native.Mathlib.Nat.{zero-mul}
 use native.Mathlib.Omega.{arith}
-use lib.IntN.{ℤ, pos}
+use lib.IntN.{ℤ}
 use lib.ListN.{length, getD}
-use Rattle.curve.specs.Lists.{Lists, lists}
+use Rattle.curve.specs.Lists.{Lists}
 use Rattle.grid.specs.Check.{Passes}
 use Rattle.checked.proofs.CheckedLaws.{checked-of-passes}
 use Rattle.insertion.specs.Insertion.{pointAt}
@@ -14,7 +14,6 @@ use Rattle.span_walk.specs.SpansMet.{upFrom, keep, nonEmpty, highKnots}
 use Rattle.cutting.specs.Cutting.{endsFrom, lacking, insertedEach, insertableEachThen}
 use Rattle.cut_window.specs.Window.{Window, Carried}
 use Rattle.pieces.specs.Loaded.{Loaded}
-use Rattle.pieces.specs.declared.Walk.{Walk}
 use Rattle.pieces.specs.Walk.{cutsUpTo, cutUpTo, AtSpan}
 use Rattle.pieces.proofs.ValueLaws.{first-wide}
 

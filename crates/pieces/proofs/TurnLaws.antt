@@ -1,17 +1,16 @@
 -- From one span of a walk to the next: the values to insert, and how many spans lie behind.
-use mathlib.Core.Bool.{Bool, true, false, cond}
+use mathlib.Core.Bool.{false, cond}
 use mathlib.Core.List.{List, [], _∷_, _++_, append-nil, map-append}
-use mathlib.Core.Path.{_≡_, refl, sym, ap, ap₂, _∙_}
+use mathlib.Core.Path.{_≡_, ap, _∙_}
 use Prim.Native.Nat.{ℕ, zero, suc, _+_, _-_, _≤_, _<_}
 use native.Mathlib.Omega.{arith}
 use lib.ListN.{length, getD, replicate, length-append}
-use lib.Dec.{ltb}
 use borrow.Author.Tests.{lt-ltb, le-ltb}
 use Rattle.span_walk.specs.SpansMet.{upFrom, keep, nonEmpty, highKnots}
 use Rattle.span_walk.proofs.KeepLaws.{keep-upTo}
 use Rattle.grid.specs.Rows.{occurrences}
 use Rattle.cutting.specs.Cutting.{endsFrom, lacking}
-use Rattle.cutting.proofs.EachLaws.{ends-more, lacking-append}
+use Rattle.cutting.proofs.EachLaws.{lacking-append}
 use Rattle.cut_window.specs.Window.{Run}
 
 module _ (m : ℕ) (ts : List ℕ) (i s : ℕ) (from : m ≤ i) (wide : getD ts i 0 < getD ts (i + 1) 0) (run : Run ts i s) where

@@ -1,19 +1,16 @@
 -- How often values stand among the knots of a curve that passes the check: the ends no more than m + 1 times, so that the first span and the last are not
 -- empty; and a run of equal knots is all of its value.
-use mathlib.Core.Bool.{true, false, true≢false}
+use mathlib.Core.Bool.{true, true≢false}
 use mathlib.Core.List.{List}
-use mathlib.Core.Path.{_≡_, refl, sym, ap, _∙_}
-use Prim.Native.Nat.{ℕ, zero, suc, _+_, _-_, _≤_, _<_}
+use mathlib.Core.Path.{_≡_, sym, ap, _∙_}
+use Prim.Native.Nat.{ℕ, _+_, _-_, _≤_, _<_}
 use native.Mathlib.Decide.{decLe}
 use native.Mathlib.Omega.{arith}
-use lib.Dec.{leb}
 use lib.IntN.{ℤ}
 use lib.ListN.{length, getD}
 use borrow.Author.Tests.{eq-eqb, ne-eqb, leb-true, leb-false}
-use Rattle.curve.specs.Lists.{Lists, lists}
-use Rattle.grid.specs.Rows.{firstKnot, lastKnot, knotOrderOk, occurrences}
+use Rattle.grid.specs.Rows.{lastKnot, knotOrderOk, occurrences}
 use Rattle.grid.specs.Check.{Passes}
-use Rattle.grid.specs.Sizes.{Sizes}
 use Rattle.grid.proofs.CheckLaws.{passes-tests}
 use Rattle.grid.proofs.InnerLaws.{repeats-again}
 use Rattle.checked.specs.Checked.{Checked}

@@ -1,12 +1,12 @@
 -- A step of a walk: where it stands, how the span is opened, and what is handed out.
-use mathlib.Core.List.{List, [], _∷_, _++_, append-assoc, append-nil}
+use mathlib.Core.List.{List, [], _∷_, _++_}
 use mathlib.Core.Bool.{cond}
-use mathlib.Core.Path.{_≡_, refl, sym, ap, ap₂, subst, _∙_}
-use Prim.Native.Nat.{ℕ, zero, suc, _+_, _-_, _*_, _≤_, _<_}
+use mathlib.Core.Path.{_≡_, refl, sym, ap, subst, _∙_}
+use Prim.Native.Nat.{ℕ, suc, _+_, _-_, _*_, _≤_, _<_}
 use native.Mathlib.Nat.{mul-one, mul-le-mul-left}
 use native.Mathlib.Decide.{ℕ-discrete}
 use native.Mathlib.Omega.{arith}
-use lib.IntN.{ℤ, pos}
+use lib.IntN.{ℤ}
 use lib.ListN.{length, getD, replicate, length-append}
 use borrow.Author.Tests.{lt-ltb}
 use Rattle.refusal.specs.Numbers.{accepted}
@@ -16,20 +16,20 @@ use Rattle.grid.specs.Sizes.{Sizes}
 use Rattle.grid.proofs.SizeLaws.{sizes-of-passes}
 use Rattle.checked.proofs.CheckedLaws.{checked-of-passes}
 use Rattle.insertion.specs.Insertion.{pointAt}
-use Rattle.span_walk.specs.SpansMet.{upFrom, keep, nonEmpty, highKnots, spanCount}
+use Rattle.span_walk.specs.SpansMet.{upFrom, keep, nonEmpty, spanCount}
 use Rattle.span_walk.proofs.KeepLaws.{keep-upTo}
 use Rattle.cutting.specs.Cutting.{endsFrom, lacking, cuts, cut, insertedEach, insertableEachThen}
-use Rattle.cutting.specs.Pieces.{pieceOf, pieceCount}
-use Rattle.cutting.proofs.EachLaws.{inserted-append, insertable-append, each-passed, each-refused, lacking-append, ends-more}
+use Rattle.cutting.specs.Pieces.{pieceOf}
+use Rattle.cutting.proofs.EachLaws.{inserted-append, insertable-append, each-passed, each-refused, lacking-append}
 use Rattle.cut_window.specs.Window.{Window, Carried, Behind, Run}
 use Rattle.cut_window.proofs.KnotLaws.{high-is, run-inside}
 use Rattle.cut_window.proofs.StepLaws.{window-turns, carried-turns}
 use Rattle.cut_steps.specs.declared.Cut.{Cut}
-use Rattle.cut_steps.specs.Step.{CutStands, Fills, highOf}
+use Rattle.cut_steps.specs.Step.{CutStands, Fills}
 use Rattle.pieces.specs.Loaded.{Loaded}
 use Rattle.pieces.specs.declared.Walk.{Walk}
 use Rattle.pieces.specs.declared.Handed.{Handed}
-use Rattle.pieces.specs.Walk.{cutsUpTo, cutUpTo, AtSpan, Hands, refuses, inner, last, Refuses, Inner, Last, Opened, Closed}
+use Rattle.pieces.specs.Walk.{cutsUpTo, cutUpTo, AtSpan, Hands, refuses, inner, last, Refuses, Inner, Opened, Closed}
 use Rattle.pieces.proofs.ValueLaws.{run-most, run-occurs}
 use Rattle.pieces.proofs.TurnLaws.{one-behind, cuts-turn}
 use Rattle.pieces.proofs.PieceLaws.{piece-is}

@@ -44,7 +44,7 @@ use Rattle.cut_whole.proofs.SentenceLaws.{cut-passes, cuts-counted, cut-full, c
 use Rattle.pieces_exact.proofs.KeptLaws.{cut-keeps-curve}
 use Rattle.pieces_exact.proofs.PointLaws.{piece-points}
 use Rattle.pieces_exact.proofs.PieceLaws.{piece-is-curve, pieces-meet, pieces-cover-domain}
-use Rattle.path_data.proofs.LongestLaws.{most-is-reached}
+use Rattle.svg_whole.proofs.LongestLaws.{svg-most-reached}
 use Rattle.svg_whole.proofs.TextLaws.{svg-is-path-data, svg-within-most}
 use Rattle.svg_whole.proofs.OutcomeLaws.{svg-answers-first, success-writes-text, refusal-writes-nothing}
 use Rattle.remove_knot.proofs.OutcomeLaws as Removal
@@ -198,7 +198,7 @@ pub pieces-cover-the-curve : PiecesCoverTheCurve
 pieces-cover-the-curve = ((piece-knots, spans-follow), piece-points, pieces-meet, pieces-cover-domain)
 
 pub path-data-written : PathDataWritten
-path-data-written = (svg-is-path-data, (svg-within-most, most-is-reached), success-writes-text, refusal-writes-nothing)
+path-data-written = (svg-is-path-data, (svg-within-most, svg-most-reached), success-writes-text, refusal-writes-nothing)
 
 pub drawing-program-has-one-text : DrawingProgramHasOneText
 drawing-program-has-one-text = (some-svg-text, one-svg-text, broken-record-is-one-line, front-tells-text)

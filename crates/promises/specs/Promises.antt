@@ -50,8 +50,7 @@ use Rattle.worked.specs.Worked.{cases}
 use Rattle.joining_exact.specs.JoinedCurve.{JoinPasses, JoinIsHermite, JoinMeetsPoints, JoinHasEntries, MeetingPointsInserted, BothAreOneCurve}
 use Rattle.cut_whole.specs.Sentences.{CutPasses, CutsCounted, CutFull, CutSizes, CutKnots, SpansFollow, PieceKnots, CutNumberIs}
 use Rattle.pieces_exact.specs.PieceCurve.{CutKeepsCurve, PieceIsCurve, PiecePoints, PiecesMeet, PiecesCoverDomain}
-use Rattle.path_data.specs.Sentences.{MostIsReached}
-use Rattle.svg_whole.specs.Sentences.{SvgIsPathData, SvgWithinMost}
+use Rattle.svg_whole.specs.Sentences.{SvgIsPathData, SvgWithinMost, SvgMostReached}
 use Rattle.svg_whole.specs.Outcome.{SvgAnswersFirst, SuccessWritesText, RefusalWritesNothing}
 use Rattle.knots_exact.specs.SameCurve.{InsertKeepsCurve, RemoveKeepsCurve, CompactKeepsCurve, EditingPasses}
 
@@ -178,10 +177,10 @@ PiecesAreTheCurve = PieceIsCurve
 abbrev pub PiecesCoverTheCurve : Type 0
 PiecesCoverTheCurve = (PieceKnots × SpansFollow) × PiecePoints × PiecesMeet × PiecesCoverDomain
 
--- "Out to SVG": what is written is of the grammar of path data and at most 18,431 bytes long, which some pieces need; it stands in front of what the list held,
+-- "Out to SVG": what is written is of the grammar of path data and at most 18,431 bytes long, which some curve's is; it stands in front of what the list held,
 -- and a refusal leaves the list as it was
 abbrev pub PathDataWritten : Type 0
-PathDataWritten = SvgIsPathData × (SvgWithinMost × MostIsReached) × SuccessWritesText × RefusalWritesNothing
+PathDataWritten = SvgIsPathData × (SvgWithinMost × SvgMostReached) × SuccessWritesText × RefusalWritesNothing
 
 -- "Out to SVG": any bytes have one text of `curvesvg`, path data and a newline or one line on the refusal; that of bytes which are no record is one line with the
 -- number and the place of their leftmost fault; and the first 10,262 bytes tell the text of longer ones

@@ -1,14 +1,13 @@
 -- The length of the text so far, as the walk goes on.
-use mathlib.Core.List.{List, _++_}
-use mathlib.Core.Path.{_≡_, refl, sym, ap, ap₂, subst, _∙_}
-use Prim.Native.Nat.{ℕ, zero, suc, _+_, _-_, _*_, _≤_, _<_}
+use mathlib.Core.Path.{_≡_, refl, sym, ap, ap₂, _∙_}
+use Prim.Native.Nat.{ℕ, suc, _+_, _-_, _<_}
 use native.Mathlib.Omega.{arith}
 use lib.ListN.{length, length-append}
 use Rattle.refusal.specs.Numbers.{accepted}
 use Rattle.curve.specs.Lists.{Lists}
 use Rattle.insertion.specs.Insertion.{entries}
 use Rattle.cutting.specs.Cutting.{cuts, cut, insertableEachThen}
-use Rattle.cutting.specs.Pieces.{pieceOf, pieceCount, pieces}
+use Rattle.cutting.specs.Pieces.{pieceOf, pieces}
 use Rattle.cutting.specs.declared.Piece.{Piece}
 use Rattle.pieces.specs.declared.Walk.{Walk}
 use Rattle.pieces.specs.declared.Handed.{Handed}
@@ -17,7 +16,6 @@ use Rattle.path_data.specs.Text.{pathText, partText}
 use Rattle.path_data.proofs.TextLaws.{entries-text}
 use Rattle.svg_out.specs.Svg.{svgText}
 use Rattle.svg_out.specs.Measure.{Measures}
-use Rattle.svg_out.specs.declared.Measured.{Measured}
 use Rattle.svg_out.proofs.StepLaws.{piecesAt, entries-same}
 
 -- at a span, and behind the last

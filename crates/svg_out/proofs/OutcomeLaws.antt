@@ -1,12 +1,12 @@
 -- What writing path data answers, way by way.
 use mathlib.Core.List.{List}
-use mathlib.Core.Path.{_≡_, refl, sym, ap, _∙_}
+use mathlib.Core.Path.{_≡_, sym, _∙_}
 use Prim.Native.Nat.{ℕ, _≤_, _<_}
 use native.Mathlib.Omega.{arith}
 use lib.ListN.{length}
 use borrow.Author.Tests.{ne-eqb, le-leb, lt-leb}
 use Rattle.refusal.specs.Numbers.{accepted, roomRefused}
-use Rattle.lent.specs.Lent.{over, after}
+use Rattle.lent.specs.Lent.{over}
 use Rattle.curve.specs.Lists.{Lists}
 use Rattle.grid.specs.Check.{Passes, checkNumber}
 use Rattle.grid.proofs.ThenLaws.{checkedThen-refused, checkedThen-passed}

@@ -1,16 +1,12 @@
 -- What one piece adds to the text, and how far out its points lie.
-use mathlib.Core.List.{List, _++_}
-use mathlib.Core.Path.{_≡_, refl, sym, ap, _∙_}
-use Prim.Native.Nat.{ℕ, zero, suc, _+_, _*_, _≤_, _<_}
+use mathlib.Core.Path.{_≡_, sym, ap, _∙_}
+use Prim.Native.Nat.{ℕ, _+_, _*_, _≤_, _<_}
 use native.Mathlib.Nat.{mul-le-mul-left}
-use native.Mathlib.Decide.{decLe}
 use native.Mathlib.Omega.{arith}
-use lib.ListN.{length, getD, length-append}
+use lib.ListN.{length, length-append}
 use Rattle.curve.specs.Lists.{Lists}
 use Rattle.grid.specs.Check.{Passes}
-use Rattle.checked.specs.Checked.{OnGrid}
 use Rattle.checked.proofs.CheckedLaws.{checked-of-passes}
-use Rattle.insertion.specs.Insertion.{pointAt}
 use Rattle.cutting.specs.declared.Piece.{Piece}
 use Rattle.cutting.specs.Pieces.{pieceOf}
 use Rattle.cutting.proofs.FourLaws.{four-used}

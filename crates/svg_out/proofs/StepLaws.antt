@@ -1,5 +1,5 @@
 -- A step of the walk over the pieces, for the text: what a piece adds, that it is on the grid, and that the walk comes to an end.
-use mathlib.Core.List.{List, [], _∷_, _++_}
+use mathlib.Core.List.{[], _∷_, _++_}
 use mathlib.Core.Path.{_≡_, refl, sym, ap, ap₂, subst, _∙_}
 use Prim.Native.Nat.{ℕ, zero, suc, _+_, _-_, _*_, _≤_, _<_}
 use native.Mathlib.Nat.{suc-mul, mul-le-mul, mul-le-mul-left, mul-le-mul-right}
@@ -8,22 +8,17 @@ use lib.ListN.{length}
 use Rattle.refusal.specs.Numbers.{accepted}
 use Rattle.curve.specs.Lists.{Lists}
 use Rattle.grid.specs.Limits.{pointsMost, pairBytesMost}
-use Rattle.grid.proofs.SizeLaws.{sizes-of-passes}
 use Rattle.insertion.specs.Insertion.{entries}
 use Rattle.insertion.proofs.EntryLaws.{entries-length}
-use Rattle.cutting.specs.Cutting.{cuts, cut, insertableEachThen}
-use Rattle.cutting.specs.Pieces.{pieceOf, pieceCount, pieces}
+use Rattle.cutting.specs.Pieces.{pieceOf}
 use Rattle.cutting.specs.declared.Piece.{Piece}
-use Rattle.cut_window.specs.Window.{Window}
 use Rattle.pieces.specs.declared.Walk.{Walk}
 use Rattle.pieces.specs.declared.Handed.{Handed}
 use Rattle.pieces.specs.Walk.{cutUpTo, AtSpan, Hands, refuses, inner, last}
 use Rattle.pieces.proofs.WalkLaws.{bounds}
-use Rattle.path_data.specs.Text.{pathText, partText}
-use Rattle.path_data.specs.Sentences.{PieceOnGrid, EachOnGrid}
-use Rattle.path_data.proofs.TextLaws.{entries-text}
+use Rattle.path_data.specs.Text.{pathText}
+use Rattle.path_data.specs.Sentences.{PieceOnGrid}
 use Rattle.path_data.proofs.LengthLaws.{pathText-most, entries-on-grid}
-use Rattle.svg_out.specs.Svg.{svgText}
 use Rattle.svg_out.proofs.PartLaws.{piece-on-grid}
 
 -- entries that are the same one by one

@@ -1,7 +1,7 @@
 -- The text so far at the front of the lent list, as the walk goes on.
 use mathlib.Core.List.{List, _++_}
-use mathlib.Core.Path.{_≡_, refl, sym, ap, ap₂, subst, _∙_}
-use Prim.Native.Nat.{ℕ, zero, suc, _+_, _-_, _*_, _≤_, _<_}
+use mathlib.Core.Path.{_≡_, sym, ap, subst, _∙_}
+use Prim.Native.Nat.{ℕ, suc, _+_, _-_, _≤_, _<_}
 use native.Mathlib.Omega.{arith}
 use lib.ListN.{length, drop, length-append}
 use borrow.Author.Tests.{lt-ltb}
@@ -18,7 +18,7 @@ use Rattle.digits.specs.Put.{Put}
 use Rattle.digits.proofs.PutLaws.{put-none, put-length, two-joined}
 use Rattle.pieces.specs.declared.Walk.{Walk}
 use Rattle.pieces.specs.declared.Handed.{Handed}
-use Rattle.pieces.specs.Walk.{cutUpTo, AtSpan, Hands, refuses, inner, last}
+use Rattle.pieces.specs.Walk.{AtSpan, Hands, refuses, inner, last}
 use Rattle.pieces.proofs.WalkLaws.{left-of-walk}
 use Rattle.path_data.specs.Text.{moveText, segmentText, pathText, partText}
 use Rattle.path_data.proofs.TextLaws.{partText-first, partText-later, entries-text, entries-within}

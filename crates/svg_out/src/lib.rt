@@ -3,7 +3,6 @@
 mod measuring;
 mod writing;
 
-ghost use mathlib.Core.Path.{_≡_};
 ghost use Rattle.curve.specs.Lists.{lists};
 ghost use Rattle.grid.specs.Check.{Passes};
 ghost use Rattle.svg_out.specs.Svg.{SvgOutcome};

@@ -12,7 +12,7 @@ use Rattle.span.specs.Span.{strictlyInside}
 use Rattle.grid.specs.Limits.{pointsMost}
 use Rattle.grid.specs.Rows.{degreeOk, pointCountOk, knotCountOk, risesFrom, knotOrderOk, allAre, endsOk, occurrences, repeatsMost, repeatsWithin, repeatsOk, onGrid, allOnGrid, rangeOk}
 use Rattle.grid.specs.Check.{checkedThen}
-use Rattle.insertion.specs.Insertion.{knotsUpTo, insertionSpan, insertedKnots, weightedSum, weight, insertedPoint, entries, insertedPoints, wholeFrom, wholePoints}
+use Rattle.insertion.specs.Insertion.{knotsUpTo, insertionSpan, weightedSum, weight, entries, wholeFrom, wholePoints}
 use Rattle.insertion.specs.Judged.{valueOk, placeOk, wholeOk, insertableThen}
 use Rattle.insertion.specs.Sentences.{NotWhole}
 use Rattle.span_walk.specs.SpansMet.{upFrom, keep, spanCount, highKnots}
