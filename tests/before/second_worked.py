@@ -35,7 +35,7 @@ from second_program.join_cases import spline_points
 from second_program.joining import THREE_TIMES, TWICE, join, pieces_of
 from second_program.knots import compact, insert_knot, polygon_with, remove_knot
 from second_program.long_feed_cases import longest_fields
-from second_program.path_data import svg
+from second_program.path_data import curvesvg_text, svg
 from second_program.pieces import Piece, cut
 from second_program.random_curves import random_curve
 from second_program.record import Fault, clampcheck_text, read_job, read_record, record_of, take_job, take_lone_record
@@ -153,6 +153,12 @@ class WorkedByHand(unittest.TestCase):
         self.assertEqual([svg(WORKED_B._replace(ys=[0, 7, 8, 0]), 0)[0], svg(once._replace(xs=[0, 0, 2, 2, 8]), 0)[0]], [11, 11])
         full = Curve(2, [0, 0, *range(1023), 1022, 1022], [k % 2 for k in range(1024)], [0] * 1024)
         self.assertEqual(svg(full, 0)[0], 10)
+
+    def test_program_of_path_data(self):
+        self.assertEqual(curvesvg_text(record_of(WORKED_A)), "M 0 0 C 0 8 8 8 8 0\n")
+        self.assertEqual(curvesvg_text(record_of(WORKED_B._replace(ys=[0, 7, 8, 0]))), "refused 11\n")
+        self.assertEqual(curvesvg_text(b""), "refused 16 at 0\n")
+        self.assertEqual(curvesvg_text(job_of(WORKED_A, CLAMPS)), "refused 21 at 61\n")
 
 
 def by_second_program(case):
