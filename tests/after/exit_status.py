@@ -12,13 +12,13 @@ sys.dont_write_bytecode = True
 sys.path[:0] = [str(pathlib.Path(__file__).resolve().parents[1])]
 
 from pretended import TOP, Folder  # noqa: E402
-from harness.told_path import curvesvg_text  # noqa: E402
 from second_program.broken_cases import broken_jobs, broken_records  # noqa: E402
 from second_program.broken_radii import broken_radii  # noqa: E402
 from second_program.curve import Curve  # noqa: E402
 from second_program.cut_curves import large_curve, moved, whole_curve  # noqa: E402
 from second_program.dice import Dice  # noqa: E402
 from second_program.job_cases import damaged_job, good_job, job_of, longest_job, with_bad_clamp  # noqa: E402
+from second_program.path_data import curvesvg_text  # noqa: E402
 from second_program.random_curves import spoiled_curve  # noqa: E402
 from second_program.record import PLACED, Fault, clampcheck_text, record_of, take_job  # noqa: E402
 
@@ -82,8 +82,8 @@ def right_path(data):
         data = record_of(take_job(data)[0])
     except Fault:
         pass
-    number, text = curvesvg_text(data)
-    return 2 if number else 0, text
+    text = curvesvg_text(data)
+    return 2 if text.startswith("refused ") else 0, text
 
 
 def real(tool, files, told):

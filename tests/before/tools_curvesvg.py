@@ -18,18 +18,18 @@ import path_answer  # noqa: E402
 import refusals  # noqa: E402
 import shape  # noqa: E402
 from harness.changed import changed  # noqa: E402
-from harness.told_path import curvesvg_text  # noqa: E402
 from job_bytes import PLACED, read_record, record_in, write_job  # noqa: E402
 from second_program.broken_cases import broken_records  # noqa: E402
 from second_program.curve import Curve  # noqa: E402
 from second_program.cut_curves import knots_of, large_curve, moved, scaled_curve, unwhole_from, whole_curve  # noqa: E402
 from second_program.dice import Dice  # noqa: E402
 from second_program.job_cases import job_of  # noqa: E402
+from second_program.path_data import curvesvg_text  # noqa: E402
 from second_program.random_curves import spoiled_curve  # noqa: E402
 from second_program.record import record_of  # noqa: E402
 
 SIGN = (TOP / "examples" / "sign.job").read_bytes()
-SIGN_TEXT = curvesvg_text(record_in(SIGN))[1].encode()
+SIGN_TEXT = curvesvg_text(record_in(SIGN)).encode()
 LINE = Curve(1, [0, 0, 3, 5, 5], [-7, 40, 0], [12, 0, -300])
 ARCH = Curve(3, [0, 0, 0, 0, 4, 4, 4, 4], [0, 0, 8, 8], [0, 8, 8, 0])
 HILL = Curve(2, [0, 0, 0, 2, 4, 4, 4], [0, 4, 8, 12], [0, 8, 8, 0])
@@ -82,7 +82,7 @@ def texts():
     """Whatever is changed in a path, it is the path of that curve no more."""
     for curve, text in ((ARCH, ARCH_TEXT), (HILL, HILL_TEXT), (LINE, LINE_TEXT)):
         record = record_of(curve)
-        assert curvesvg_text(record) == (0, text.decode()) and word(text, record) == path_answer.WRITTEN, "the path is not understood"
+        assert curvesvg_text(record) == text.decode() and word(text, record) == path_answer.WRITTEN, "the path is not understood"
         for other in changed(text, b"0149 \n-+,.MLQCc\x00\xff"):
             assert other == text or word(other, record) is None, "%r counts as a path of the curve" % other
     for text in WRONG:
@@ -142,7 +142,8 @@ def judged():
     """Number, place and path are the second program's; of a refusal it is told what is wrong, and every piece is the curve's own."""
     seen = set()
     for data in records(Dice(1406)):
-        number, text = curvesvg_text(data)
+        text = curvesvg_text(data)
+        number = int(text.split()[1]) if text.startswith("refused ") else 0
         seen.add(number)
         found = refusals.judged_record(data)
         assert (refusals.line(*found[:2]) + "\n" if found else "") == (text if number else ""), "%r: %r where %r is right" % (data[:60], found, text)
@@ -171,9 +172,9 @@ def advice():
         points = len(knots) - m - 1
         axes = [[dice.between(-20000, 20000) for _ in range(points)] for _ in "xy"]
         curve = Curve(m, [wide * (knot - knots[0]) for knot in knots], *axes)
-        needed += curvesvg_text(record_of(curve))[0] == 11
+        needed += curvesvg_text(record_of(curve)) == "refused 11\n"
         helped = curve._replace(xs=[12 * x for x in curve.xs], ys=[12 * y for y in curve.ys])
-        assert curvesvg_text(record_of(helped))[0] == 0, "%s cannot be cut" % (helped,)
+        assert curvesvg_text(record_of(helped)).startswith("M "), "%s cannot be cut" % (helped,)
     assert needed > 100 and "multiples of 12" in refusals.WORDS[11], "the advice is not needed"
 
 
@@ -256,7 +257,7 @@ def readme():
     job = description.read_text(described)
     drawn = xml.fromstring(re.search(r"^    <svg (.|\n)*?^    </svg>\n", text, re.M)[0])
     (path,) = drawn.iter("{http://www.w3.org/2000/svg}path")
-    assert path.get("d") + "\n" == curvesvg_text(record_in(write_job(job)))[1], "README.md draws another path: %s" % path.get("d")
+    assert path.get("d") + "\n" == curvesvg_text(record_in(write_job(job))), "README.md draws another path: %s" % path.get("d")
     assert path.get("transform") == "scale(1,-1)" and path.get("fill") == "none" and path.get("stroke"), "README.md does not turn it"
     left, top, wide, high = map(float, drawn.get("viewBox").split())
     assert all(left < x < left + wide and top < -y < top + high for x, y in job.points), "the path of README.md is not seen"

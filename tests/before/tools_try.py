@@ -8,11 +8,11 @@ sys.dont_write_bytecode = True
 sys.path[:0] = [str(pathlib.Path(__file__).resolve().parents[1])]
 
 from pretended import TOP, in_folder, run_parts  # noqa: E402
-from harness.told_path import curvesvg_text  # noqa: E402
 from job_bytes import record_in  # noqa: E402
 from refusals import WORDS, mending  # noqa: E402
 from second_program.curve import Curve  # noqa: E402
 from second_program.job_cases import job_of  # noqa: E402
+from second_program.path_data import curvesvg_text  # noqa: E402
 
 CRATES = "# what is listed\nrefusal:\ngrid: refusal\nother: grid\nclampcheck: io grid refusal\ncurvesvg: io refusal\n"
 PROVES = "printf 'rt: refusal proved (unchanged since it was last proved)\\nlogic=proved\\nrt: grid proved (9 s)\\nrt: ok\\n'"
@@ -32,7 +32,7 @@ clamp 5 may meet 80..90
 CUT = "byte 240: here the contents of clamp 5 go on, 1 byte more, found the end\n"
 TAGGED = "byte 4: here the knots begin with tag 2, found 7\n"
 MORE = "python3 tools/job.py explain cut.job shows what stands at which byte\n"
-PATH = curvesvg_text(record_in(SAMPLE))[1].encode()
+PATH = curvesvg_text(record_in(SAMPLE)).encode()
 UNCUT = job_of(Curve(2, [0, 0, 0, 2, 4, 4, 4], [0, 4, 8, 12], [0, 7, 8, 0]), [])
 OLD = "byte 141: here the cutter's radius begins with tag 6, found 5\n%s\n" % mending("cut.job")
 

@@ -10,16 +10,15 @@ sys.path.insert(0, str(TOP / "tools"))
 import draw  # noqa: E402
 from job_bytes import read_job, record_in, write_job  # noqa: E402
 from second_program.curve import Curve  # noqa: E402
+from second_program.path_data import curvesvg_text  # noqa: E402
 from second_program.record import clampcheck_text  # noqa: E402
-
-from .told_path import curvesvg_text  # noqa: E402
 
 SIGN = read_job((TOP / "examples" / "sign.job").read_bytes())
 
 
 def texts_on(data):
     """What both programs print on a job."""
-    return clampcheck_text(data)[1].encode(), curvesvg_text(record_in(data))[1].encode()
+    return clampcheck_text(data)[1].encode(), curvesvg_text(record_in(data)).encode()
 
 
 def picture(job):
