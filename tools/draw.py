@@ -5,7 +5,7 @@
     python3 tools/draw.py JOB PICTURE.svg OUTPUT          takes what clampcheck printed from the file OUTPUT
     python3 tools/draw.py JOB PICTURE.svg OUTPUT PATH     and what curvesvg printed from the file PATH
 
-The curve is drawn as curvesvg printed it, piece by piece. Where curvesvg cannot cut it on the grid (refused 10 or 11), or is not built
+The curve is drawn as curvesvg printed it, piece by piece. Where curvesvg cannot cut this curve on the grid (refused 10 or 11), or is not built
 and no PATH is given, the pieces are worked out here, and the picture says so.
 
 The cut is a band as wide as the cutter, and each clamp has a second outline, widened by the cutter's radius. Clear clamps are
@@ -38,7 +38,7 @@ def pieces_of(job, data, path):
         return dict(zip(spans, found.pieces)), None
     if found and found.refusal not in (cutting.FULL, cutting.BETWEEN_LINES):
         raise answer.NotUnderstood("curvesvg refuses, by %d, a curve that clampcheck takes" % found.refusal)
-    why = "curvesvg cannot cut it on the grid (refused %d)" % found.refusal if found else "curvesvg is not built (tools/try.sh --svg builds it)"
+    why = "curvesvg cannot cut this curve on the grid (refused %d)" % found.refusal if found else "curvesvg is not built (tools/try.sh --svg builds it)"
     return {span: shape.bezier(job, span) for span in spans}, why
 
 

@@ -23,9 +23,9 @@ from second_program.curve import exact_point  # noqa: E402
 from second_program.cut_curves import whole_curve  # noqa: E402
 from second_program.dice import Dice  # noqa: E402
 
-HEAD = "this curve is worked out here and not proved: "
+HEAD = "the drawn line is not proved: "
 NO_PROGRAM = HEAD + "curvesvg is not built (tools/try.sh --svg builds it)"
-CANNOT = HEAD + "curvesvg cannot cut it on the grid (refused %d)"
+CANNOT = HEAD + "curvesvg cannot cut this curve on the grid (refused %d)"
 INK = {"#1d3557": "clear", "#b5121b": "entered", "#b36b00": "boxed"}
 HILL = Job(2, [0, 0, 0, 2, 4, 4, 4], [(0, 0), (4, 8), (8, 8), (12, 0)], 1, [(5, 7, 9, 12)])
 UNCUT = Job(2, HILL.knots, [(0, 0), (4, 7), (8, 8), (12, 0)], 1, HILL.clamps)

@@ -44,7 +44,7 @@ class Legend:
         """The curve, and why it is not the one that curvesvg printed, where it is not."""
         self.sign(self.knotted, "the curve; a stroke across it is a knot, with its value where there is room")
         if why:
-            self.row("this curve is worked out here and not proved: " + why)
+            self.row("the drawn line is not proved: " + why)
 
     def signs(self, picture):
         """The other lines of the picture, those that are there."""
