@@ -5,13 +5,13 @@
     python3 tools/draw.py JOB PICTURE.svg OUTPUT          takes what clampcheck printed from the file OUTPUT
     python3 tools/draw.py JOB PICTURE.svg OUTPUT PATH     and what curvesvg printed from the file PATH
 
-The curve is drawn as curvesvg printed it, piece by piece. Where curvesvg cannot cut this curve on the grid (refused 10 or 11), or is not built
-and no PATH is given, the pieces are worked out here, and the picture says so.
+The curve is drawn as curvesvg printed it, piece by piece. Where curvesvg cannot cut it on the grid (refused 10 or 11), or is not built and
+no PATH is given, the pieces are worked out here, and the picture says so.
 
 The cut is a band as wide as the cutter, and each clamp has a second outline, widened by the cutter's radius. Clear clamps are
 plain green. Of the others, those that the drawn cut runs into are crossed red, and those that are listed for a box round control
 points alone are striped amber. Knots stand on the curve with their values; clamps that lie far off are pointed at from the
-border. A refused job gives a picture that says why. The same job gives the same bytes.
+border. A refused job gives a picture that says why. The same job and texts give the same bytes.
 """
 
 import os
