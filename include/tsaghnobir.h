@@ -52,7 +52,7 @@
  *   - nothing else reads or writes these places while the call runs;
  *   - a list of length 0 may be a null pointer; any other may not;
  *   - a length counts entries, not bytes, and a list is at most 2^63 - 1 bytes;
- *   - the stack reaches: under 272 bytes for most calls, under 1056 for tsb_svg, which cuts a piece at a time, under
+ *   - the stack reaches: under 272 bytes for most calls, under 1100 for tsb_svg, which cuts a piece at a time, under
  *     11 KiB for tsb_remove, tsb_compact, both readers and tsb_feed_end, each of which holds a curve while it works.
  *     docs/BENCHMARKS.md has the bytes of each call.
  */
