@@ -10,6 +10,8 @@ use lib.Signed.{quotZ}
 use Rattle.grid.specs.Limits.{coordinateMost}
 use Rattle.signed.specs.Division.{divides}
 use Rattle.insertion.specs.Insertion.{pointAt}
+use Rattle.cut_rows.specs.declared.Mean.{Mean}
+use Rattle.cut_rows.specs.declared.Next.{Next}
 
 -- above the line of a mean: (v - low)·q + (high - v)·p
 abbrev pub meanSum : ℕ → ℕ → ℕ → ℤ → ℤ → ℤ
@@ -32,7 +34,13 @@ pub record RowStands (m : ℕ) (ts : List ℕ) (at low v full : ℕ) (row : List
   pub behind : (k : ℕ) → full < k → k ≤ m → v ≤ getD ts (at + k) 0
   pub range : (k : ℕ) → natAbs (pointAt row k) ≤ coordinateMost
 
--- they are all whole, or one is not
+-- what a mean is, that it is on the grid, and whether it is whole
+pub record MeanOf (sum width : ℤ) (r : Mean) : Type 0 where
+  pub whole : r .whole ≡ divides width sum
+  pub value : r .value ≡ quotZ sum width
+  pub range : natAbs (r .value) ≤ coordinateMost
+
+-- the places that are made anew are all whole, or one is not
 pub record WholeOutcome (m : ℕ) (ts : List ℕ) (at low v full : ℕ) (row : List ℤ) (r : Bool) : Type 0 where
   pub whole : r ≡ true → (k : ℕ) → full < k → k ≤ m → divides (widthAt ts at low k) (sumAt ts at low v row k) ≡ true
   pub broken : r ≡ false → (k : ℕ) × (full < k) × (k ≤ m) × (divides (widthAt ts at low k) (sumAt ts at low v row k) ≡ false)
@@ -43,6 +51,11 @@ pub record Stepped (m : ℕ) (ts : List ℕ) (at low v full : ℕ) (row next : L
   pub kept : (k : ℕ) → k ≤ full → pointAt next k ≡ pointAt row k
   pub made : (k : ℕ) → full < k → k ≤ m → pointAt next k ≡ quotZ (sumAt ts at low v row k) (widthAt ts at low k)
   pub unused : (k : ℕ) → m < k → k < 4 → pointAt next k ≡ pointAt row k
+
+-- both; where one is not whole nothing is said of the row
+pub record NextOf (m : ℕ) (ts : List ℕ) (at low v full : ℕ) (row : List ℤ) (r : Next) : Type 0 where
+  pub whole : WholeOutcome m ts at low v full row (r .whole)
+  pub next : r .whole ≡ true → Stepped m ts at low v full row (r .row)
 
 -- three points with one more in front
 pub record Pushed (point : ℤ) (behind now : List ℤ) : Type 0 where

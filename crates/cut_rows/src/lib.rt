@@ -6,49 +6,44 @@ ghost use lib.IntN.{pos, natAbs};
 ghost use lib.Signed.{quotZ};
 ghost use Rattle.grid.specs.Limits.{coordinateMost};
 ghost use Rattle.signed.specs.Division.{divides};
-ghost use Rattle.cut_rows.specs.Row.{meanSum, sumAt, widthAt, RowStands, WholeOutcome, Stepped, Pushed};
+ghost use Rattle.cut_rows.specs.Row.{meanSum, sumAt, widthAt, RowStands, MeanOf, NextOf, Pushed};
 
-// Whether the mean of p and q at v, between the knots low and high, is whole.
-fn is_whole(low: u16, v: u16, high: u16, p: i32, q: i32) -> bool
-    requires { ⌜ (low < v) × (v ≤ high) ⌝ }
-    ensures answer { λ r. ⌜ r ≡ divides (pos (high - low)) (meanSum low v high p q) ⌝ }
-{
-    insertion_parts::is_multiple(
-        insertion_parts::weighted_sum(v - low, q, high - v, p),
-        high - low,
-    )
+// A mean of two coordinates: what it is, toward zero, and whether it is just that.
+pub struct Mean {
+    pub whole: bool,
+    pub value: i32,
 }
 
-// That mean; of two coordinates on the grid it is no further out than they are.
-fn mean(low: u16, v: u16, high: u16, p: i32, q: i32) -> i32
+// A row with one insertion more, and whether every point that is new in it is whole.
+pub struct Next {
+    pub whole: bool,
+    pub row: [i32; 4],
+}
+
+// Whether a quotient has left nothing over. A product takes less time than a second division.
+fn is_exact(value: i32, width: u16, sum: i64) -> bool
+    requires { ⌜ (0 < width) × (value ≡ quotZ sum (pos width)) ⌝ }
+    ensures answer { λ r. ⌜ r ≡ divides (pos width) sum ⌝ }
+{
+    signed::product(width, value) == sum
+}
+
+// The mean of p and q at v, between the knots low and high; of two coordinates on the grid it is no further out than they are.
+fn mean_between(low: u16, v: u16, high: u16, p: i32, q: i32) -> Mean
     requires { ⌜ (low < v) × (v ≤ high) ⌝ }
     requires { ⌜ (natAbs p ≤ coordinateMost) × (natAbs q ≤ coordinateMost) ⌝ }
-    ensures answer { λ r. ⌜ r ≡ quotZ (meanSum low v high p q) (pos (high - low)) ⌝ }
+    ensures answer { λ r. ⌜ MeanOf (meanSum low v high p q) (pos (high - low)) r ⌝ }
 {
-    insertion_parts::quotient(
-        insertion_parts::weighted_sum(v - low, q, high - v, p),
-        high - low,
-    )
+    let width = high - low;
+    let sum = insertion_parts::weighted_sum(v - low, q, high - v, p);
+    let value = insertion_parts::quotient(sum, width);
+    Mean {
+        whole: is_exact(value, width, sum),
+        value,
+    }
 }
 
-// Whether the row's place k would be whole. `full` times the high knot v stands; behind the place k the knot is `knots[at + k]`.
-fn is_whole_at(
-    row: [i32; 4],
-    m: usize,
-    knots: &[u16],
-    at: usize,
-    low: u16,
-    v: u16,
-    full: usize,
-    k: usize,
-) -> bool
-    requires { ⌜ RowStands m (now knots) at low v full row × (full < k) × (k ≤ m) ⌝ }
-    ensures answer { λ r. ⌜ r ≡ divides (widthAt (now (knots .entry)) at low k) (sumAt (now (knots .entry)) at low v row k) ⌝ }
-{
-    is_whole(low, v, knots[at + k], row[k - 1], row[k])
-}
-
-// What it would be.
+// The mean that the row's place k becomes. `full` times the high knot v stands; behind the place k the knot is `knots[at + k]`.
 fn mean_at(
     row: [i32; 4],
     m: usize,
@@ -58,33 +53,11 @@ fn mean_at(
     v: u16,
     full: usize,
     k: usize,
-) -> i32
+) -> Mean
     requires { ⌜ RowStands m (now knots) at low v full row × (full < k) × (k ≤ m) ⌝ }
-    ensures answer { λ r. ⌜ r ≡ quotZ (sumAt (now (knots .entry)) at low v row k) (widthAt (now (knots .entry)) at low k) ⌝ }
+    ensures answer { λ r. ⌜ MeanOf (sumAt (now (knots .entry)) at low v row k) (widthAt (now (knots .entry)) at low k) r ⌝ }
 {
-    mean(low, v, knots[at + k], row[k - 1], row[k])
-}
-
-// Whether every point that one insertion more makes is whole.
-pub fn whole_row(
-    row: [i32; 4],
-    m: usize,
-    knots: &[u16],
-    at: usize,
-    low: u16,
-    v: u16,
-    full: usize,
-) -> bool
-    requires { ⌜ RowStands m (now knots) at low v full row ⌝ }
-    ensures answer { λ r. ⌜ WholeOutcome m (now (knots .entry)) at low v full row r ⌝ }
-{
-    if !is_whole_at(row, m, knots, at, low, v, full, m) {
-        return false;
-    }
-    if full + 1 == m {
-        return true;
-    }
-    is_whole_at(row, m, knots, at, low, v, full, m - 1)
+    mean_between(low, v, knots[at + k], row[k - 1], row[k])
 }
 
 // The row with one insertion more.
@@ -96,19 +69,31 @@ pub fn next_row(
     low: u16,
     v: u16,
     full: usize,
-) -> [i32; 4]
+) -> Next
     requires { ⌜ RowStands m (now knots) at low v full row ⌝ }
-    ensures answer { λ r. ⌜ Stepped m (now (knots .entry)) at low v full row r ⌝ }
+    ensures answer { λ r. ⌜ NextOf m (now (knots .entry)) at low v full row r ⌝ }
 {
     let last = mean_at(row, m, knots, at, low, v, full, m);
     if m == 2 {
-        return [row[0], row[1], last, row[3]];
+        return Next {
+            whole: last.whole,
+            row: [row[0], row[1], last.value, row[3]],
+        };
     }
     if full == 2 {
-        return [row[0], row[1], row[2], last];
+        return Next {
+            whole: last.whole,
+            row: [row[0], row[1], row[2], last.value],
+        };
     }
     let third = mean_at(row, m, knots, at, low, v, full, 2);
-    [row[0], row[1], third, last]
+    if !third.whole {
+        return Next { whole: false, row };
+    }
+    Next {
+        whole: last.whole,
+        row: [row[0], row[1], third.value, last.value],
+    }
 }
 
 // The points behind a row, with one more in front of them.

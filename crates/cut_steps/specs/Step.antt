@@ -9,15 +9,22 @@ use Rattle.curve.specs.Lists.{Lists, lists}
 use Rattle.insertion.specs.Insertion.{pointAt, inserted}
 use Rattle.insertion.specs.Judged.{insertableThen}
 use Rattle.cutting.specs.Cutting.{insertedEach, insertableEachThen}
-use Rattle.cut_rows.specs.Row.{Stepped, Pushed}
+use mathlib.Core.Bool.{true}
+use Rattle.cut_rows.specs.Row.{WholeOutcome, Stepped as RowStepped, Pushed}
 use Rattle.cut_window.specs.Window.{Window, Carried, Behind, Run}
 use Rattle.cut_steps.specs.declared.Axis.{Axis}
+use Rattle.cut_steps.specs.declared.Stepped.{Stepped}
 use Rattle.cut_steps.specs.declared.Cut.{Cut}
 
 -- one axis, one insertion further
 pub record AxisSteps (m : ℕ) (ts : List ℕ) (at low v full : ℕ) (axis next : Axis) : Type 0 where
-  pub row : Stepped m ts at low v full (axis .row) (next .row)
+  pub row : RowStepped m ts at low v full (axis .row) (next .row)
   pub behind : Pushed (pointAt (axis .row) m) (axis .behind) (next .behind)
+
+-- the same, unless a new point is not whole
+pub record AxisOutcome (m : ℕ) (ts : List ℕ) (at low v full : ℕ) (axis : Axis) (r : Stepped) : Type 0 where
+  pub whole : WholeOutcome m ts at low v full (axis .row) (r .whole)
+  pub steps : r .whole ≡ true → AxisSteps m ts at low v full axis (r .axis)
 
 -- the span's high knot stood s times and was inserted r times; the rows and what is behind them are those of d
 pub record CutStands (m : ℕ) (c d : Lists) (i k s r : ℕ) (cut : Cut) : Type 0 where

@@ -4,13 +4,19 @@ ghost use mathlib.Core.List.{List};
 ghost use Prim.Native.Nat.{ℕ, _+_, _≤_, _<_};
 ghost use lib.IntN.{ℤ};
 ghost use Rattle.curve.specs.Lists.{Lists, lists};
-ghost use Rattle.cut_rows.specs.Row.{RowStands, WholeOutcome};
-ghost use Rattle.cut_steps.specs.Step.{AxisSteps, CutStands, Possible, Steps, Fills};
+ghost use Rattle.cut_rows.specs.Row.{RowStands};
+ghost use Rattle.cut_steps.specs.Step.{AxisOutcome, CutStands, Possible, Steps, Fills};
 
 // One axis: the row of points that carry the span, and the points behind them.
 pub struct Axis {
     pub row: [i32; 4],
     pub behind: [i32; 4],
+}
+
+// One axis after an insertion, and whether its new points are whole.
+pub struct Stepped {
+    pub whole: bool,
+    pub axis: Axis,
 }
 
 // A span on its way: 0 or the number of the insertion that failed, the points of the whole curve so far, and both axes.
@@ -21,26 +27,30 @@ pub struct Cut {
     pub y: Axis,
 }
 
-// One axis with one insertion more: `full` times the high knot v stands already.
-fn step_axis(axis: Axis, m: usize, knots: &[u16], at: usize, low: u16, v: u16, full: usize) -> Axis
+// One axis with one insertion more, and whether every new point is whole: `full` times the high knot v stands already.
+fn step_axis(
+    axis: Axis,
+    m: usize,
+    knots: &[u16],
+    at: usize,
+    low: u16,
+    v: u16,
+    full: usize,
+) -> Stepped
     requires { ⌜ RowStands m (now knots) at low v full (axis .row) ⌝ }
-    ensures answer { λ r. ⌜ AxisSteps m (now (knots .entry)) at low v full axis r ⌝ }
+    ensures answer { λ r. ⌜ AxisOutcome m (now (knots .entry)) at low v full axis r ⌝ }
 {
     let row = axis.row;
     let behind = axis.behind;
-    Axis {
-        row: cut_rows::next_row(row, m, knots, at, low, v, full),
-        behind: cut_rows::pushed(row[m], behind),
+    let next = cut_rows::next_row(row, m, knots, at, low, v, full);
+    let next_row = next.row;
+    Stepped {
+        whole: next.whole,
+        axis: Axis {
+            row: next_row,
+            behind: cut_rows::pushed(row[m], behind),
+        },
     }
-}
-
-// Whether an insertion more makes whole points alone on one axis.
-fn whole_axis(axis: Axis, m: usize, knots: &[u16], at: usize, low: u16, v: u16, full: usize) -> bool
-    requires { ⌜ RowStands m (now knots) at low v full (axis .row) ⌝ }
-    ensures answer { λ r. ⌜ WholeOutcome m (now (knots .entry)) at low v full (axis .row) r ⌝ }
-{
-    let row = axis.row;
-    cut_rows::whole_row(row, m, knots, at, low, v, full)
 }
 
 // The high knot of the span i inserted once more, where it stood s times and was inserted r times; or the number of the refusal: 10 where the curve is full,
@@ -65,7 +75,8 @@ fn insert_once(cut: Cut, m: usize, knots: &[u16], i: usize, s: usize, r: usize) 
     let low = knots[i];
     let v = knots[i + 1];
     let full = s + r;
-    if !whole_axis(x, m, knots, at, low, v, full) {
+    let next_x = step_axis(x, m, knots, at, low, v, full);
+    if !next_x.whole {
         return Cut {
             number: refusal::NOT_WHOLE,
             points,
@@ -73,7 +84,8 @@ fn insert_once(cut: Cut, m: usize, knots: &[u16], i: usize, s: usize, r: usize) 
             y,
         };
     }
-    if !whole_axis(y, m, knots, at, low, v, full) {
+    let next_y = step_axis(y, m, knots, at, low, v, full);
+    if !next_y.whole {
         return Cut {
             number: refusal::NOT_WHOLE,
             points,
@@ -81,11 +93,13 @@ fn insert_once(cut: Cut, m: usize, knots: &[u16], i: usize, s: usize, r: usize) 
             y,
         };
     }
+    let new_x = next_x.axis;
+    let new_y = next_y.axis;
     Cut {
         number: refusal::ACCEPTED,
         points: points + 1,
-        x: step_axis(x, m, knots, at, low, v, full),
-        y: step_axis(y, m, knots, at, low, v, full),
+        x: new_x,
+        y: new_y,
     }
 }
 

@@ -17,8 +17,9 @@ pushed-requires c κs = search needs
 
 returns : tie.Need-returns
 returns c =
-    let s = c .before .before .before .before .before .before in
-    record { row = c .before .before .next-row .ensures; behind = rw (row-read (s .pre) (s .args .m)) at (c .pushed .ensures) }
+    let start = c .before .before .before .before .before .before .before in
+    let next = c .before .before .before .next-row .ensures in
+    record { whole = next .whole; steps = λ e. record { row = next .next e; behind = rw (row-read (start .pre) (start .args .m)) at (c .pushed .ensures) } }
 
 pub step-axis-spec : {M : Type 1} → statement M
 step-axis-spec =
