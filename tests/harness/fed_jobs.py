@@ -1,4 +1,5 @@
-"""Turns every case of `read_job` into three of `feed`: the job whole, a byte at a time, and in four bursts with empty ones round them.
+"""Turns every case of `read_job` into three of `feed`: the job whole, a byte at a time (of a long job only at both its ends), and in four bursts with empty ones
+round them.
 
 The right answer is the reading's own, so what is fed is held to what is read. Nothing of this stands in tests/vectors."""
 
@@ -13,12 +14,21 @@ from second_program.vectors import CALLS, u32
 from .shapes import Case, Reader
 
 SEED = 11482
+LONG = 1000  # bytes of a job that takes too long to be fed a byte at a time
+ENDS, BETWEEN = 100, 13  # of such a job so many bytes at each end one by one, and bursts of so many between
 
 
 def job_in(case):
     reader = Reader(case.body)
     reader.number("u8")
     return reader.take(reader.number())
+
+
+def in_small_bursts(data):
+    if len(data) <= LONG:
+        return bytewise(data)
+    middle = data[ENDS:-ENDS]
+    return [*bytewise(data[:ENDS]), *(middle[k : k + BETWEEN] for k in range(0, len(middle), BETWEEN)), *bytewise(data[-ENDS:])]
 
 
 def in_four(dice, data):
@@ -59,6 +69,6 @@ def fed_jobs(jobs):
     for case in jobs:
         data = job_in(case)
         made.append(fed(case, "whole", [data]))
-        made.append(fed(case, "a byte at a time", bytewise(data)))
+        made.append(fed(case, "in small bursts", in_small_bursts(data)))
         made.append(fed(case, "in four bursts", in_four(dice, data)))
     return made

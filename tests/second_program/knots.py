@@ -27,11 +27,8 @@ def polygon_with(m, ts, points, v):
     return new + points[i:]
 
 
-def insert_knot(curve, v, room):
-    """Number and the new curve."""
-    number = check(curve)
-    if number:
-        return number, None
+def insert_judged(curve, v):
+    """Number and the new curve, of a curve that passes the check."""
     m, ts = curve.degree, curve.knots
     low, high = domain(curve)
     if not low < v < high or ts.count(v) >= m:
@@ -41,8 +38,14 @@ def insert_knot(curve, v, room):
     axes = [polygon_with(m, ts, axis, v) for axis in (curve.xs, curve.ys)]
     if any(q.denominator != 1 for axis in axes for q in axis) and not planted("insert_knot"):
         return 11, None
-    new = Curve(m, sorted(ts + [v]), *[[int(q) for q in axis] for axis in axes])
-    return refused_room(new, room), new
+    return 0, Curve(m, sorted(ts + [v]), *[[int(q) for q in axis] for axis in axes])
+
+
+def insert_knot(curve, v, room):
+    """Number and the new curve."""
+    number = check(curve)
+    number, new = (number, None) if number else insert_judged(curve, v)
+    return (number, None) if number else (refused_room(new, room), new)
 
 
 def solved(rows, unknowns):

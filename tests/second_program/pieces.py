@@ -6,10 +6,9 @@ from typing import List, NamedTuple, Tuple
 
 from .curve import MOST_POINTS, Curve
 from .fault import planted
-from .knots import inner_values, insert_knot, polygon_with
+from .knots import inner_values, insert_judged, polygon_with
 from .spans import spans
 
-ROOM = (MOST_POINTS + 4, MOST_POINTS, MOST_POINTS)  # for any curve
 HELD = 4  # points of a piece, whatever the degree
 
 
@@ -44,7 +43,7 @@ def misjudged(number, curve, v):
 
 def inserted(curve, v):
     """Number and the curve with v once more."""
-    number, new = insert_knot(curve, v, ROOM)
+    number, new = insert_judged(curve, v)
     return misjudged(number, curve, v) if number else (0, new)
 
 
