@@ -28,6 +28,7 @@ LEAST_OF_CALL = 50
 LEAST_OF_REFUSAL = 20
 MOST_LARGE = 163
 LARGE = 256
+AT_ONCE = 16  # cases that are made before the answers are looked at, while a fault is planted
 MOST_BYTES = 4 * 1024 * 1024
 CHECK = (1, 2, 3, 4, 5, 6, 7)
 BROKEN = (16, 19, 20, 21)
@@ -76,22 +77,34 @@ def too_many(cases):
 
 
 def differences(calls, cases):
-    """Where the files are not what is made anew; of a single call, its part of them."""
+    """Where the files are not what is made anew; of a single call, or of the first cases, their part of them."""
     for file, anew in ((CASES, case_file(cases)), (ANSWERS, answer_file(cases))):
         kept = file.read_bytes()
-        same = anew == kept if tuple(calls) == CALLS else anew in kept
+        same = anew == kept if tuple(calls) == CALLS and not PLANTED else anew in kept
         if not same:
             yield "tests/vectors/%s differs from what is made anew" % file.name
 
 
+def spoiled_cases(calls):
+    """The cases as far as their answers are the kept ones, and some more: a planted fault is for the answers to notice, and has been by then."""
+    kept, cases = ANSWERS.read_bytes(), []
+    for case in (case for call in calls for case in cases_of(call)):
+        cases.append(case)
+        if len(cases) % AT_ONCE == 0 and answer_file(cases) not in kept:
+            break
+    return cases
+
+
 def compare(calls):
     try:
+        if PLANTED:
+            return [*differences(calls, spoiled_cases(calls))]
         cases = [case for call in calls for case in cases_of(call)]
-        near, hits = try_demands([] if PLANTED else cases)  # a planted fault is for the answers to notice, and may leave no curve to try
+        near, hits = try_demands(cases)
     except (Unexpected, Broken) as fault:
         return [str(fault)]
     faults = [*too_few(calls, cases), *too_many(cases), *differences(calls, cases)]
-    if tuple(calls) == CALLS and not PLANTED:
+    if tuple(calls) == CALLS:
         faults += too_few_hits(hits)
     if not faults:
         reached = "%(inside)d exact points in clamps, %(within)d within the radius of one, %(at_side)d at it from a side, %(at_corner)d from a corner" % hits

@@ -3,7 +3,7 @@
 It is no part of the gate, for the reader is not in the kit: rsvg-convert, in Debian's package librsvg2-bin, draws the path as a PNG picture. It needs the
 crates proved, with target/bin/curvesvg built, and takes some seconds behind the building of the archive.
 
-Curves of every degree that can be cut, and the sample, are drawn as README.md draws a path. The points come from tsb_point_at in the archive, at so many
+Curves of every degree that can be cut, and the sample, are drawn as README.md draws a path. The points come from tsb_point in the archive, at so many
 whole parameters that they lie close together. Every point has to lie on the drawn line, and no place of the line far from all points. Then wrong paths
 are drawn: each must be noticed. Curves that are nearly a straight line or turn back within the width of the line are left out: there the reader draws
 a wide line with gaps, whatever the path.

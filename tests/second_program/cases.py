@@ -42,5 +42,5 @@ SECTIONS = dict(
 
 
 def cases_of(call):
-    """Every case of one call, the same on every machine."""
-    return list(SECTIONS[call](Dice(2026 + vectors.CALLS.index(call))))
+    """Every case of one call by turns, the same on every machine."""
+    return SECTIONS[call](Dice(2026 + vectors.CALLS.index(call)))

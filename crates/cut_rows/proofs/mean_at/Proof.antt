@@ -1,3 +1,4 @@
+-- The two places and the knot behind them are what the mean is taken of, and the row is on the grid.
 use Prim.Native.Nat.{_-_}
 use borrow.Author.Needs.{needs}
 use Rattle.cut_rows.proofs.StepLaws.{row-read}

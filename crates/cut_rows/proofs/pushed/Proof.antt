@@ -1,3 +1,4 @@
+-- Four places, one after the other, each read as it was lent.
 use borrow.Author.Needs.{needs, sfits-of}
 use mir.Facts.{toZ-ofZ}
 use Rattle.cut_rows.proofs.RowLaws.{pushed-on}

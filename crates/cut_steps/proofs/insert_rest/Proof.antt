@@ -1,3 +1,4 @@
+-- None, one or two insertions: by how often the high knot stood, each is the next of those that the whole curve takes.
 use native.Mathlib.Omega.{arith}
 use borrow.Author.Needs.{needs}
 use Rattle.curve.specs.Lists.{lists}

@@ -1,3 +1,4 @@
+-- The row steps, and its last point moves behind it.
 use borrow.Author.Needs.{needs}
 use Rattle.cut_rows.proofs.StepLaws.{row-read}
 use Rattle.cut_steps.proofs.step_axis.Statement.{statement}

@@ -1,3 +1,4 @@
+-- The rows are the last piece as they stand, and nothing is left to insert.
 use mathlib.Core.Path.{refl}
 use native.Mathlib.Omega.{arith}
 use Rattle.curve.specs.Lists.{lists}

@@ -1,3 +1,4 @@
+-- By whether the span is the last.
 use borrow.Author.Needs.{needs}
 use Rattle.pieces.proofs.next_piece.Statement.{statement}
 use Rattle.pieces.proofs.next_piece.Tie as tie

@@ -1,3 +1,4 @@
+-- At the first span nothing was inserted, and the rows are the first points.
 use mathlib.Core.Path.{refl}
 use native.Mathlib.Omega.{arith}
 use Rattle.curve.specs.Lists.{lists}

@@ -1,3 +1,4 @@
+-- The number of measuring, the room, or the text.
 use native.Mathlib.Omega.{arith}
 use borrow.Author.Needs.{needs}
 use Rattle.curve.specs.Lists.{lists}

@@ -1,3 +1,4 @@
+-- The check's number, or what is answered of a curve that passes.
 use borrow.Author.Needs.{needs}
 use Rattle.curve.specs.Lists.{lists}
 use Rattle.svg_out.proofs.OutcomeLaws.{check-refuses}

@@ -1,3 +1,4 @@
+-- The high knot is not the right end, so it stands a run of times; its insertions are those of the whole curve, and the rows are then the piece and the next span's.
 use Prim.Native.Nat.{_+_}
 use native.Mathlib.Omega.{arith}
 use Rattle.curve.specs.Lists.{lists}

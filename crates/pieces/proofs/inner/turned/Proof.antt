@@ -1,3 +1,4 @@
+-- The last point of the row is read as it was lent.
 use borrow.Author.Needs.{needs, sfits-of}
 use mir.Facts.{toZ-ofZ}
 use Rattle.pieces.proofs.inner.turned.Statement.{statement}

@@ -1,3 +1,4 @@
+-- The loop's invariant: the first k places hold the coordinates, the others 0.
 use mathlib.Core.Path.{_≡_, subst}
 use Prim.Native.Nat.{_-_, _≤_}
 use native.Mathlib.Omega.{arith}

@@ -1,3 +1,4 @@
+-- The loop's invariant: the first s knots behind are the same; the right end is larger, so the loop stops before it.
 use Prim.Native.Nat.{_-_}
 use borrow.Author.Needs.{needs}
 use lib.ListN.{length}

@@ -1,3 +1,4 @@
+-- The loop's invariant: the length so far is that of the pieces behind the walk.
 use mathlib.Core.Path.{refl}
 use Prim.Native.Nat.{_-_}
 use native.Mathlib.Omega.{arith}

@@ -1,3 +1,4 @@
+-- The first piece has the move before it, any other its segment alone.
 use native.Mathlib.Omega.{arith}
 use Rattle.svg_out.proofs.PartLaws.{later-part, first-part}
 use borrow.Author.Needs.{needs}

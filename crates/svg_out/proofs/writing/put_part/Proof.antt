@@ -1,3 +1,4 @@
+-- The first piece has the move before it, any other its segment alone.
 use native.Mathlib.Omega.{arith}
 use borrow.Author.Needs.{needs}
 use Rattle.digits.proofs.PutLaws.{two-first, two-second, two-joined}

@@ -1,3 +1,4 @@
+-- The loop's invariant: the text of the pieces behind the walk stands in front, and there is room for the rest.
 use Prim.Native.Nat.{_-_, _<_}
 use native.Mathlib.Omega.{arith}
 use lib.ListN.{length}
