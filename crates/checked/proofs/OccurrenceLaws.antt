@@ -1,19 +1,18 @@
 -- Row 6: how often a value stands, over every value; and which stands too often.
-use mathlib.Core.Bool.{Bool, true, false, cond, _||_}
+use mathlib.Core.Bool.{true, false}
 use mathlib.Core.List.{List, [], _∷_}
-use mathlib.Core.Logic.{_⊎_, inl, inr}
+use mathlib.Core.Logic.{_⊎_, inl, inr, ⊎-elim}
 use mathlib.Core.Path.{_≡_, refl, subst}
-use native.Mathlib.Nat.{le-refl}
 use Prim.Native.Nat.{ℕ, zero, suc, _+_, _≤_, _<_, zero-le}
-use native.Mathlib.Decide.{ℕ-discrete}
+use native.Mathlib.Decide.{ℕ-discrete, decLe}
 use native.Mathlib.Omega.{arith}
-use lib.Dec.{eqb, leb}
+use lib.Dec.{leb}
 use lib.ListN.{length, getD}
 use borrow.Author.Tests.{leb-true, leb-false}
-use Rattle.grid.specs.Rows.{firstKnot, lastKnot, occurrences, repeatsMost, repeatsWithin, repeatsOk}
+use Rattle.grid.specs.Rows.{domainStart, domainEnd, occurrences, repeatsMost, repeatsWithin, repeatsOk}
 use Rattle.grid.proofs.RepeatLaws.{occurrences-is, occurrences-not}
-use Rattle.grid.proofs.InnerLaws.{most-first, most-last, most-inner}
-use Rattle.checked.specs.Sentences.{RepeatsWrong}
+use Rattle.grid.proofs.InnerLaws.{most-inside, most-left, most-right}
+use Rattle.checked.specs.Sentences.{Inside, RepeatsWrong}
 use Rattle.checked.proofs.TestLaws.{every-passes, some-fails, Judged}
 
 -- a value that stands somewhere is an entry, and an entry stands somewhere
@@ -37,11 +36,6 @@ occurs-at v (t ∷ ts) (suc k) i e =
       | no n ↦ rw (occurrences-not v t ts n) rest
     ]
 
--- a value may stand m times, or once more
-most-bound : (end : Bool) (m : ℕ) → cond end (m + 1) m ≤ m + 1
-most-bound true m = le-refl (m + 1)
-most-bound false m = omega arith
-
 module _ (m : ℕ) (ts : List ℕ) where
   -- the test says so of every entry, and what is no entry stands nowhere
   within-entry : repeatsOk m ts ≡ true → (k : ℕ) → k < length ts → occurrences (getD ts k 0) ts ≤ repeatsMost m ts (getD ts k 0)
@@ -59,39 +53,41 @@ module _ (m : ℕ) (ts : List ℕ) where
           let r = stands-at v ts (omega arith) in
           rw e at (subst (λ (x : ℕ). occurrences x ts ≤ repeatsMost m ts x) (r .2) (within-entry h (r .0) (r .1)))
 
-  -- a value inside stands at most m times, any value at most m+1 times
+  -- a value strictly inside the domain stands at most m times, any value at most m+1 times
   abbrev pub Repeated : Type 0
-  Repeated = ((v : ℕ) → (v ≡ firstKnot ts → ⊥) → (v ≡ lastKnot ts → ⊥) → occurrences v ts ≤ m) × ((v : ℕ) → occurrences v ts ≤ m + 1)
+  Repeated = ((v : ℕ) → Inside m ts v → occurrences v ts ≤ m) × ((v : ℕ) → occurrences v ts ≤ m + 1)
 
-  repeats-facts : repeatsOk m ts ≡ true → Repeated
-  unfolding repeatsMost
-  repeats-facts h = (
-    (λ v a b. rw (most-inner m ts v a b) at (within h v)),
-    (λ v. omega (arith, within h v, most-bound (eqb v (firstKnot ts) || eqb v (lastKnot ts)) m)),
-  )
-
-  by-value : (v : ℕ) → repeatsMost m ts v < occurrences v ts
-      → (((v ≡ firstKnot ts) ⊎ (v ≡ lastKnot ts)) × (m + 1 < occurrences v ts))
-      ⊎ ((v ≡ firstKnot ts → ⊥) × (v ≡ lastKnot ts → ⊥) × (m < occurrences v ts))
-  by-value v l =
-      elim (ℕ-discrete v (firstKnot ts)) [
-        | yes e ↦ inl (inl e, rw (most-first m ts v e) at l)
-        | no a ↦ elim (ℕ-discrete v (lastKnot ts)) [
-          | yes e ↦ inl (inr e, rw (most-last m ts v e) at l)
-          | no b ↦ inr (a, b, rw (most-inner m ts v a b) at l)
+  -- a value stands inside, or as often as it may it stands m+1 times
+  by-place : (v : ℕ) → (Inside m ts v × (repeatsMost m ts v ≡ m)) ⊎ ((Inside m ts v → ⊥) × (repeatsMost m ts v ≡ m + 1))
+  by-place v =
+      elim (decLe v (domainStart m ts)) [
+        | yes a ↦ inr (λ k. omega (arith, k .above), most-left m ts v a)
+        | no a ↦ elim (decLe (domainEnd m ts) v) [
+          | yes b ↦ inr (λ k. omega (arith, k .below), most-right m ts v b)
+          | no b ↦ inl (record { above = omega arith; below = omega arith }, most-inside m ts v (omega arith) (omega arith))
         ]
       ]
+
+  most-bound : (v : ℕ) → repeatsMost m ts v ≤ m + 1
+  most-bound v = ⊎-elim (λ k. omega (arith, k .1)) (λ k. omega (arith, k .1)) (by-place v)
+
+  repeats-facts : repeatsOk m ts ≡ true → Repeated
+  repeats-facts h = (
+    (λ v k. rw (most-inside m ts v (k .above) (k .below)) at (within h v)),
+    (λ v. omega (arith, within h v, most-bound v)),
+  )
 
   repeats-wrong : repeatsOk m ts ≡ false → RepeatsWrong m ts
   unfolding repeatsOk repeatsWithin
   repeats-wrong h =
       let r = some-fails (λ v. leb (occurrences v ts) (repeatsMost m ts v)) (repeatsWithin m ts) refl (λ a s. refl) 0 ts h in
       let v = getD ts (r .0) 0 in
-      (v, by-value v (leb-false (occurrences v ts) (repeatsMost m ts v) (r .2)))
+      let many = leb-false (occurrences v ts) (repeatsMost m ts v) (r .2) in
+      (v, ⊎-elim (λ k. inl (k .0, rw (k .1) at many)) (λ k. inr (k .0, rw (k .1) at many)) (by-place v))
 
   repeats-clash : Repeated → RepeatsWrong m ts → ⊥
-  repeats-clash r (v, inl h) = omega (arith, r .1 v, h .1)
-  repeats-clash r (v, inr h) = omega (arith, r .0 v (h .0) (h .1), h .2)
+  repeats-clash r (v, inl h) = omega (arith, r .0 v (h .0), h .1)
+  repeats-clash r (v, inr h) = omega (arith, r .1 v, h .1)
 
   pub repeats-judged : Judged (repeatsOk m ts) Repeated (RepeatsWrong m ts)
   repeats-judged = record { passing = repeats-facts; failing = repeats-wrong; clash = repeats-clash }

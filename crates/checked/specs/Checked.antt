@@ -7,7 +7,7 @@ use lib.ListN.{length, getD}
 use lib.Signed.{_≤ℤ_}
 use Rattle.curve.specs.Lists.{NeverFall}
 use Rattle.grid.specs.Limits.{knotMost, coordinateMost}
-use Rattle.grid.specs.Rows.{firstKnot, lastKnot, occurrences}
+use Rattle.grid.specs.Rows.{occurrences}
 use Rattle.grid.specs.Sizes.{Sizes}
 
 -- z lies on the grid
@@ -21,12 +21,10 @@ pub record Checked (m : ℕ) (ts : List ℕ) (xs ys : List ℤ) : Type 0 where
   -- knots never fall, and none is above the largest
   pub rising : NeverFall ts
   pub largest : (a : ℕ) → a < length ts → getD ts a 0 ≤ knotMost
-  -- the first m+1 knots are equal, the last m+1 are equal, and the domain is not empty
-  pub firsts : (a : ℕ) → a ≤ m → getD ts a 0 ≡ firstKnot ts
-  pub lasts : (a : ℕ) → length xs ≤ a → a < length ts → getD ts a 0 ≡ lastKnot ts
+  -- the domain is not empty
   pub domain : getD ts m 0 < getD ts (length xs) 0
-  -- a value inside stands at most m times, any value at most m+1 times
-  pub inner : (v : ℕ) → (v ≡ firstKnot ts → ⊥) → (v ≡ lastKnot ts → ⊥) → occurrences v ts ≤ m
+  -- a value strictly inside it stands at most m times, any value at most m+1 times
+  pub inner : (v : ℕ) → getD ts m 0 < v → v < getD ts (length xs) 0 → occurrences v ts ≤ m
   pub outer : (v : ℕ) → occurrences v ts ≤ m + 1
   pub gridX : (a : ℕ) → a < length xs → OnGrid (getD xs a (pos 0))
   pub gridY : (a : ℕ) → a < length ys → OnGrid (getD ys a (pos 0))

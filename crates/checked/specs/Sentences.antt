@@ -8,7 +8,7 @@ use lib.ListN.{length, getD}
 use lib.Signed.{_<ℤ_}
 use Rattle.refusal.specs.Chain.{Row, row}
 use Rattle.grid.specs.Limits.{pointsMost, knotMost, coordinateMost, radiusMost}
-use Rattle.grid.specs.Rows.{firstKnot, lastKnot, occurrences}
+use Rattle.grid.specs.Rows.{domainStart, domainEnd, occurrences}
 
 -- row 1: the degree is none of 1, 2, 3
 abbrev pub DegreeWrong : ℕ → Type 0
@@ -27,19 +27,18 @@ abbrev pub KnotOrderWrong : List ℕ → Type 0
 KnotOrderWrong ts =
     (k : ℕ) × (k < length ts) × ((knotMost < getD ts k 0) ⊎ ((k + 1 < length ts) × (getD ts (k + 1) 0 < getD ts k 0)))
 
--- row 5: one of the first m+1 knots is not the first knot, or one of the last m+1 is not the last knot, or first and last are equal
+-- row 5: the domain is empty: t_m is not below t_{n+1}
 abbrev pub EndsWrong : ℕ → List ℕ → Type 0
-EndsWrong m ts =
-    ((k : ℕ) × (k < length ts) × (k < m + 1) × (getD ts k 0 ≡ firstKnot ts → ⊥))
-    ⊎ ((k : ℕ) × (k < length ts) × (length ts ≤ k + (m + 1)) × (getD ts k 0 ≡ lastKnot ts → ⊥))
-    ⊎ (firstKnot ts ≡ lastKnot ts)
+EndsWrong m ts = domainEnd m ts ≤ domainStart m ts
 
--- row 6: some value stands too often: an end value more than m+1 times, any other value more than m times
+-- v lies strictly inside the domain
+pub record Inside (m : ℕ) (ts : List ℕ) (v : ℕ) : Type 0 where
+  pub above : domainStart m ts < v
+  pub below : v < domainEnd m ts
+
+-- row 6: some value stands too often: one strictly inside the domain more than m times, any other more than m+1 times
 abbrev pub RepeatsWrong : ℕ → List ℕ → Type 0
-RepeatsWrong m ts =
-    (v : ℕ)
-    × ((((v ≡ firstKnot ts) ⊎ (v ≡ lastKnot ts)) × (m + 1 < occurrences v ts))
-    ⊎ ((v ≡ firstKnot ts → ⊥) × (v ≡ lastKnot ts → ⊥) × (m < occurrences v ts)))
+RepeatsWrong m ts = (v : ℕ) × ((Inside m ts v × (m < occurrences v ts)) ⊎ ((Inside m ts v → ⊥) × (m + 1 < occurrences v ts)))
 
 -- z lies beyond the grid
 abbrev pub OffGrid : ℤ → Type 0

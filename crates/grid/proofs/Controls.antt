@@ -6,7 +6,7 @@ use Prim.Native.Nat.{ℕ, _+_, _*_}
 use lib.IntN.{ℤ, pos, negsuc}
 use lib.ListN.{replicate}
 use Rattle.grid.specs.Limits.{pointsMost, knotsMost, splinePointsLeast, splinePointsMost, knotBytesMost, coordinateBytesMost, sidesMost, recordMost, jobMost}
-use Rattle.grid.specs.Rows.{degreeOk, pointCountOk, knotCountOk, risesFrom, knotOrderOk, allAre, endsOk, occurrences, repeatsMost, repeatsWithin, repeatsOk, onGrid, allOnGrid, rangeOk, axisOk, rectangleOk, radiusOk}
+use Rattle.grid.specs.Rows.{degreeOk, pointCountOk, knotCountOk, risesFrom, knotOrderOk, endsOk, occurrences, repeatsMost, repeatsWithin, repeatsOk, onGrid, allOnGrid, rangeOk, axisOk, rectangleOk, radiusOk}
 use Rattle.grid.specs.Check.{checkedThen, checkNumber}
 
 -- a degree, knots, x, y, and the number that the check answers
@@ -54,13 +54,16 @@ cases =
     ∷ on 1 (0 ∷ 0 ∷ 16383 ∷ 16383 ∷ []) two two 0
     ∷ on 1 (0 ∷ 0 ∷ 16384 ∷ 16384 ∷ []) two two 4
     ∷ on 1 (4 ∷ 4 ∷ 0 ∷ 0 ∷ []) two two 4
-    -- 5: an end that differs, the other, two equal ends
-    ∷ on 1 (0 ∷ 1 ∷ 4 ∷ 4 ∷ []) two two 5
-    ∷ on 1 (0 ∷ 0 ∷ 3 ∷ 4 ∷ []) two two 5
+    -- 5: ends that are not clamped, an empty domain between two that differ, four equal knots
+    ∷ on 1 (0 ∷ 1 ∷ 3 ∷ 4 ∷ []) two two 0
+    ∷ on 1 (0 ∷ 2 ∷ 2 ∷ 4 ∷ []) two two 5
     ∷ on 1 (4 ∷ 4 ∷ 4 ∷ 4 ∷ []) two two 5
-    -- 6: an inner value m+1 times, an end value m+2 times
+    -- 6: an inner value m+1 times, an end value m+1 times and m+2 times; of degree 2 a value outside the domain m times, which is the most
     ∷ on 1 (0 ∷ 0 ∷ 2 ∷ 2 ∷ 4 ∷ 4 ∷ []) (many 4) (many 4) 6
+    ∷ on 1 (0 ∷ 2 ∷ 2 ∷ 4 ∷ 4 ∷ 5 ∷ []) (many 4) (many 4) 0
     ∷ on 1 (0 ∷ 0 ∷ 0 ∷ 4 ∷ 4 ∷ []) (many 3) (many 3) 6
+    ∷ on 1 (0 ∷ 0 ∷ 4 ∷ 4 ∷ 4 ∷ []) (many 3) (many 3) 6
+    ∷ on 2 (0 ∷ 0 ∷ 1 ∷ 2 ∷ 2 ∷ 3 ∷ 3 ∷ []) (many 4) (many 4) 0
     -- 7: the largest coordinate and the smallest, one beyond each, in x and in y
     ∷ on 1 (0 ∷ 0 ∷ 4 ∷ 4 ∷ []) (pos 262144 ∷ pos 0 ∷ []) (negsuc 262143 ∷ pos 0 ∷ []) 0
     ∷ on 1 (0 ∷ 0 ∷ 4 ∷ 4 ∷ []) (pos 262145 ∷ pos 0 ∷ []) two 7
@@ -68,7 +71,7 @@ cases =
     ∷ []
 
 cases-answered : answers cases ≡ numbers cases
-unfolding checkNumber checkedThen degreeOk pointCountOk knotCountOk risesFrom knotOrderOk allAre endsOk occurrences repeatsMost repeatsWithin repeatsOk onGrid allOnGrid rangeOk
+unfolding checkNumber checkedThen degreeOk pointCountOk knotCountOk risesFrom knotOrderOk endsOk occurrences repeatsMost repeatsWithin repeatsOk onGrid allOnGrid rangeOk
 cases-answered = refl
 
 -- 14: the whole grid, its low corner alone; crossed sides in x and in y, and each side one beyond the grid

@@ -5,7 +5,6 @@ pub mod EntryLaws
 pub mod FlagLaws
 pub mod OrderLaws
 pub mod RepeatLaws
-pub mod EndLaws
 pub mod InnerLaws
 pub mod ThenLaws
 pub mod SizeLaws

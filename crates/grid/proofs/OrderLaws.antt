@@ -9,9 +9,13 @@ use lib.Dec.{leb}
 use lib.ListN.{length, getD}
 use borrow.Author.Tests.{le-leb, leb-true, leb-false}
 use Rattle.grid.specs.Limits.{knotMost}
-use Rattle.grid.specs.Rows.{risesFrom, knotOrderOk, lastKnot}
+use Rattle.grid.specs.Rows.{risesFrom, knotOrderOk}
 use Rattle.grid.proofs.FlagLaws.{fails, flag-tells}
 use Rattle.grid.proofs.RepeatLaws.{rises-between, rises-most}
+
+-- the last knot: where none falls, the largest
+abbrev largest : List ℕ → ℕ
+largest ts = getD ts (length ts - 1) 0
 
 -- knot j is below the one before it
 abbrev pub Falls : List ℕ → ℕ → Type 0
@@ -53,11 +57,11 @@ module _ (ts : List ℕ) where
         omega arith
 
     -- none that falls: the last knot decides
-    pub order-by-last : 1 ≤ length ts → leb (lastKnot ts) knotMost ≡ knotOrderOk ts
+    pub order-by-last : 1 ≤ length ts → leb (largest ts) knotMost ≡ knotOrderOk ts
     unfolding knotOrderOk
     order-by-last some =
-        flag-tells (leb (lastKnot ts) knotMost) (risesFrom 0 ts)
+        flag-tells (leb (largest ts) knotMost) (risesFrom 0 ts)
         (λ e. rises-of 0 ts steps
         (λ j i. let there : j + (length ts - 1 - j) ≡ length ts - 1 = omega arith in
-        omega (arith, leb-true (lastKnot ts) knotMost e, rw there at (climbs j (length ts - 1 - j) (omega arith)))))
-        (λ e. fails (risesFrom 0 ts) (λ h. omega (arith, leb-false (lastKnot ts) knotMost e, rises-most 0 ts h (length ts - 1) (omega arith))))
+        omega (arith, leb-true (largest ts) knotMost e, rw there at (climbs j (length ts - 1 - j) (omega arith)))))
+        (λ e. fails (risesFrom 0 ts) (λ h. omega (arith, leb-false (largest ts) knotMost e, rises-most 0 ts h (length ts - 1) (omega arith))))

@@ -1,11 +1,11 @@
 -- The tests behind refusals 1 to 7, 14 and 22, one for each row (heading "Numbers of refusal"): true where the row does not refuse.
 -- `m` is the degree, `ts` the knots, `xs` and `ys` the coordinates.
-use mathlib.Core.Bool.{Bool, true, not, cond, _&&_, _||_}
+use mathlib.Core.Bool.{Bool, true, cond, _&&_}
 use mathlib.Core.List.{List, [], _∷_}
 use Prim.Native.Nat.{ℕ, suc, _+_, _-_}
-use lib.Dec.{leb, eqb}
+use lib.Dec.{leb, ltb, eqb}
 use lib.IntN.{ℤ, pos, negℤ}
-use lib.ListN.{length, getD, take, drop}
+use lib.ListN.{length, getD}
 use lib.Signed.{leZ}
 use Rattle.grid.specs.Limits.{pointsMost, knotMost, coordinateMost, radiusMost}
 
@@ -25,28 +25,21 @@ risesFrom low (t ∷ ts) = leb low t && leb t knotMost && risesFrom t ts
 unfoldable pub knotOrderOk : List ℕ → Bool  -- row 4: knots 0 to 16,383, never falling
 knotOrderOk ts = risesFrom 0 ts
 
-abbrev pub firstKnot : List ℕ → ℕ  -- the first knot and the last one
-firstKnot ts = getD ts 0 0
+abbrev pub domainStart : ℕ → List ℕ → ℕ  -- the ends of the domain, t_m and t_{n+1}: behind t_{n+1} stand m knots more
+domainStart m ts = getD ts m 0
 
-abbrev pub lastKnot : List ℕ → ℕ
-lastKnot ts = getD ts (length ts - 1) 0
+abbrev pub domainEnd : ℕ → List ℕ → ℕ
+domainEnd m ts = getD ts (length ts - (m + 1)) 0
 
-unfoldable pub allAre : ℕ → List ℕ → Bool  -- every entry is v
-allAre v [] = true
-allAre v (t ∷ ts) = eqb t v && allAre v ts
-
-unfoldable pub endsOk : ℕ → List ℕ → Bool  -- row 5: the first m+1 knots are equal, the last m+1 are equal, and the two ends are not
-endsOk m ts =
-    allAre (firstKnot ts) (take (m + 1) ts)
-    && allAre (lastKnot ts) (drop (length ts - (m + 1)) ts)
-    && not (eqb (firstKnot ts) (lastKnot ts))
+unfoldable pub endsOk : ℕ → List ℕ → Bool  -- row 5: t_m is below t_{n+1}
+endsOk m ts = ltb (domainStart m ts) (domainEnd m ts)
 
 unfoldable pub occurrences : ℕ → List ℕ → ℕ  -- how often v stands in a list
 occurrences v [] = 0
 occurrences v (t ∷ ts) = cond (eqb t v) (suc (occurrences v ts)) (occurrences v ts)
 
-unfoldable pub repeatsMost : ℕ → List ℕ → ℕ → ℕ  -- how often v may stand: an end value m+1 times, any other m times
-repeatsMost m ts v = cond (eqb v (firstKnot ts) || eqb v (lastKnot ts)) (m + 1) m
+unfoldable pub repeatsMost : ℕ → List ℕ → ℕ → ℕ  -- how often v may stand: strictly inside the domain m times, at its ends and outside it m+1 times
+repeatsMost m ts v = cond (ltb (domainStart m ts) v && ltb v (domainEnd m ts)) m (m + 1)
 
 -- each value of the list `vs` stands in the knots `ts` no more often than it may
 unfoldable pub repeatsWithin : ℕ → List ℕ → List ℕ → Bool

@@ -1,22 +1,19 @@
 -- The knots with v among them and the knots without it: each row of the check that speaks of knots says the same of both,
 -- so an insertion hands back a curve that passes the check, and a removal too.
-use mathlib.Core.Bool.{Bool, true, false, cond, not, _&&_, _||_}
-use mathlib.Core.List.{List, [], _∷_, _++_}
-use mathlib.Core.Path.{_≡_, refl, sym, ap, ap₂, _∙_}
+use mathlib.Core.Bool.{Bool, true, false, cond, _&&_}
+use mathlib.Core.List.{List, [], _∷_}
+use mathlib.Core.Path.{_≡_, refl, ap, _∙_}
 use Prim.Native.Nat.{ℕ, zero, suc, _+_, _-_, _≤_, _<_}
-use native.Mathlib.Numerals.{add-one}
 use native.Mathlib.Omega.{arith}
-use lib.Dec.{leb, eqb}
-use lib.ListN.{length, getD, take, drop, length-take}
-use lib.Seq.{take-append-le, take-take, drop-append-add, drop-drop, length-take-le}
-use borrow.Author.Tests.{leb-true, leb-false, le-leb, lt-leb, eqb-true}
+use lib.Dec.{leb, ltb, eqb}
+use lib.ListN.{length, getD}
+use borrow.Author.Tests.{leb-true, leb-false, le-leb, eqb-true}
 use Rattle.grid.specs.Limits.{knotMost}
-use Rattle.grid.specs.Rows.{risesFrom, firstKnot, lastKnot, allAre, endsOk, occurrences, repeatsMost, repeatsWithin, repeatsOk}
+use Rattle.grid.specs.Rows.{risesFrom, domainStart, domainEnd, endsOk, occurrences, repeatsMost, repeatsWithin, repeatsOk}
 use Rattle.refusal.proofs.JudgingLaws.{both}
 use Rattle.grid.proofs.RepeatLaws.{rises-cons, rises-weaken}
 use Rattle.insertion.specs.Insertion.{knotsUpTo, insertedKnots}
 use Rattle.insertion.proofs.OrderLaws.{either}
-use Rattle.insertion.proofs.SpanLaws.{knotsUpTo-length}
 use Rattle.insertion.proofs.KnotLaws.{insertedKnots-length, insertedKnots-before, insertedKnots-behind}
 
 -- row 4
@@ -91,60 +88,31 @@ pub test-of-repeats : (m : ℕ) (ts : List ℕ) → ((w : ℕ) → occurrences w
 unfolding repeatsOk
 test-of-repeats m ts all = within-of-all m ts ts all
 
--- v stands among the others: the knots split there
-insertedKnots-split : (ks : List ℕ) (v : ℕ) → insertedKnots ks v ≡ take (knotsUpTo v ks) ks ++ v ∷ drop (knotsUpTo v ks) ks
-unfolding insertedKnots knotsUpTo
-insertedKnots-split [] v = refl
-insertedKnots-split (k ∷ ks) v = go (leb k v) (insertedKnots-split ks v)
-  where
-    go : (b : Bool) → insertedKnots ks v ≡ take (knotsUpTo v ks) ks ++ v ∷ drop (knotsUpTo v ks) ks
-        → cond b (k ∷ insertedKnots ks v) (v ∷ k ∷ ks)
-        ≡ take (cond b (suc (knotsUpTo v ks)) 0) (k ∷ ks) ++ v ∷ drop (cond b (suc (knotsUpTo v ks)) 0) (k ∷ ks)
-    go true e = ap (λ (l : List ℕ). k ∷ l) e
-    go false e = refl
-
 module _ (m : ℕ) (ks : List ℕ) (v : ℕ) (left : m < knotsUpTo v ks) (right : knotsUpTo v ks + m + 1 ≤ length ks) where
-  pub first-same : firstKnot (insertedKnots ks v) ≡ firstKnot ks
-  first-same = insertedKnots-before ks v 0 (omega arith)
+  -- the ends of the domain stay
+  start-same : domainStart m (insertedKnots ks v) ≡ domainStart m ks
+  start-same = insertedKnots-before ks v m left
 
-  pub last-same : lastKnot (insertedKnots ks v) ≡ lastKnot ks
-  last-same =
-      let place : length (insertedKnots ks v) - 1 ≡ suc (length ks - 1) = omega (arith, insertedKnots-length ks v) in
-      ap (λ (n : ℕ). getD (insertedKnots ks v) n 0) place ∙ insertedKnots-behind ks v (length ks - 1) (omega arith)
+  end-same : domainEnd m (insertedKnots ks v) ≡ domainEnd m ks
+  end-same =
+      let place : length (insertedKnots ks v) - (m + 1) ≡ suc (length ks - (m + 1)) = omega (arith, insertedKnots-length ks v) in
+      ap (λ (n : ℕ). getD (insertedKnots ks v) n 0) place ∙ insertedKnots-behind ks v (length ks - (m + 1)) (omega arith)
 
-  front-same : take (m + 1) (insertedKnots ks v) ≡ take (m + 1) ks
-  front-same =
-      ap (take (m + 1)) (insertedKnots-split ks v)
-      ∙ take-append-le (m + 1) (take (knotsUpTo v ks) ks) (v ∷ drop (knotsUpTo v ks) ks)
-      (rw (length-take-le (knotsUpTo v ks) ks (knotsUpTo-length v ks)) (omega arith))
-      ∙ take-take (m + 1) (knotsUpTo v ks) ks (omega arith)
-
-  back-same : drop (length (insertedKnots ks v) - (m + 1)) (insertedKnots ks v) ≡ drop (length ks - (m + 1)) ks
-  back-same =
-      let rest = length ks - (m + 1) - knotsUpTo v ks in
-      let place : length (insertedKnots ks v) - (m + 1) ≡ length (take (knotsUpTo v ks) ks) + suc (length ks - (m + 1) - knotsUpTo v ks) =
-      omega (arith, insertedKnots-length ks v, length-take-le (knotsUpTo v ks) ks (knotsUpTo-length v ks)) in
-      let whole : knotsUpTo v ks + (length ks - (m + 1) - knotsUpTo v ks) ≡ length ks - (m + 1) = omega arith in
-      ap₂ drop place (insertedKnots-split ks v)
-      ∙ drop-append-add (take (knotsUpTo v ks) ks) (v ∷ drop (knotsUpTo v ks) ks) (suc (length ks - (m + 1) - knotsUpTo v ks))
-      ∙ drop-drop (length ks - (m + 1) - knotsUpTo v ks) (knotsUpTo v ks) ks
-      ∙ ap (λ (n : ℕ). drop n ks) whole
-
-  -- row 5 reads the same knots
+  -- row 5 reads these alone
   pub ends-same : endsOk m (insertedKnots ks v) ≡ endsOk m ks
   unfolding endsOk
-  ends-same = rw (front-same, back-same, first-same, last-same)
+  ends-same = rw (start-same, end-same)
 
   -- how often a value may stand
-  pub most-same : (w : ℕ) → repeatsMost m (insertedKnots ks v) w ≡ repeatsMost m ks w
+  most-same : (w : ℕ) → repeatsMost m (insertedKnots ks v) w ≡ repeatsMost m ks w
   unfolding repeatsMost
-  most-same w = rw (first-same, last-same)
+  most-same w = rw (start-same, end-same)
 
   most-least : (w : ℕ) → m ≤ repeatsMost m ks w
   unfolding repeatsMost
-  most-least w = go (eqb w (firstKnot ks) || eqb w (lastKnot ks))
+  most-least w = go (ltb (domainStart m ks) w && ltb w (domainEnd m ks))
     where
-      go : (b : Bool) → m ≤ cond b (m + 1) m
+      go : (b : Bool) → m ≤ cond b m (m + 1)
       go true = omega arith
       go false = omega arith
 

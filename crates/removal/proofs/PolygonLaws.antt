@@ -7,16 +7,17 @@ use lib.IntN.{ℤ, pos, _-ℤ_, _*ℤ_}
 use lib.ListN.{length, getD}
 use lib.Seq.{ext-getD}
 use lib.Signed.{quotZ}
-use borrow.Author.Tests.{le-leb, eq-eqb, ne-eqb, lt-ltb}
+use borrow.Author.Tests.{le-leb, eq-eqb, lt-ltb}
 use Rattle.curve.specs.Lists.{Lists, lists, NeverFall}
 use Rattle.curve.proofs.ListLaws.{lists-same, same-xs, same-ys}
 use Rattle.curve.proofs.RoomLaws.{enough-all}
 use Rattle.grid.specs.Limits.{pointsMost}
-use Rattle.grid.specs.Rows.{firstKnot, lastKnot, degreeOk, pointCountOk, knotCountOk, knotOrderOk, rangeOk, allOnGrid, occurrences, repeatsMost}
+use Rattle.grid.specs.Rows.{domainEnd, degreeOk, pointCountOk, knotCountOk, knotOrderOk, rangeOk, allOnGrid, occurrences}
 use Rattle.grid.specs.Check.{Passes}
 use Rattle.refusal.proofs.JudgingLaws.{both}
 use Rattle.grid.proofs.CheckLaws.{passes-tests, check-accepts}
 use Rattle.grid.proofs.SizeLaws.{sizes-of-passes}
+use Rattle.grid.proofs.InnerLaws.{most-inside}
 use Rattle.insertion.specs.Insertion.{knotsUpTo, insertionSpan, insertedKnots, pointAt, wholePoints}
 use Rattle.insertion.specs.Judged.{valueOk, placeOk, wholeOk}
 use Rattle.insertion.proofs.OrderLaws.{either}
@@ -188,14 +189,13 @@ module _ (m : ℕ) (ts : List ℕ) (xs ys : List ℤ) (v : ℕ) (inner : Inner m
 
   -- v is no end value, so it stands at most m times, and one time fewer here
   fewer-count : occurrences v (withoutOne v ts) < m
-  unfolding occurrences repeatsMost
+  unfolding occurrences
   fewer-count =
       let t = passes-tests m ts xs ys (inner .passes) in
       let s = sizes-of-passes m ts xs ys (inner .passes) in
       let most = repeats-of-test m ts (t .repeats) v in
-      let first = rises 0 m (omega arith) (omega (arith, s .knots)) in
-      let last = rises (length xs) (length ts - 1) (omega (arith, s .knots)) (omega (arith, s .knots)) in
-      let bound = rw (ne-eqb v (firstKnot ts) (λ e. omega (arith, inner .low)), ne-eqb v (lastKnot ts) (λ e. omega (arith, inner .high))) at most in
+      let end : domainEnd m ts ≡ getD ts (length xs) 0 = ap (λ (i : ℕ). getD ts i 0) (omega (arith, s .knots)) in
+      let bound = rw (most-inside m ts v (inner .low) (omega (arith, inner .high, end))) at most in
       let count = occurrences-inserted v (withoutOne v ts) v in
       let more = rw (fewer-inserted, eq-eqb v v refl) at count in
       omega arith

@@ -80,10 +80,8 @@ returns-4 c =
 
 ends-ok-requires : tie.Need-ends-ok-requires
 ends-ok-requires c κs =
-    let start = c .before .before .before .before .before .before .before .before .before in (
-      omega (arith, knots-of-test (start .args .degree) (start .args .knots .now) (start .args .xs .now) (knots-passed (c .before .before))),
-      order-passed c,
-    )
+    let start = c .before .before .before .before .before .before .before .before .before in
+    omega (arith, knots-of-test (start .args .degree) (start .args .knots .now) (start .args .xs .now) (knots-passed (c .before .before)))
 
 returns-5 : tie.Need-returns-5
 returns-5 c =
@@ -97,7 +95,11 @@ returns-5 c =
 repeats-ok-requires : tie.Need-repeats-ok-requires
 repeats-ok-requires c κs =
     let start = c .before .before .before .before .before .before .before .before .before .before .before in (
-      omega (arith, knots-of-test (start .args .degree) (start .args .knots .now) (start .args .xs .now) (knots-passed (c .before .before .before .before))),
+      omega (
+        arith,
+        knots-of-test (start .args .degree) (start .args .knots .now) (start .args .xs .now) (knots-passed (c .before .before .before .before)),
+        (points-of-test (start .args .degree) (start .args .xs .now) (start .args .ys .now) (points-passed (c .before .before .before .before .before .before))) .1,
+      ),
       (
         order-passed (c .before .before),
         ends-passed c,

@@ -1,70 +1,40 @@
--- Row 5: its three comparisons in the order of the definition.
+-- Row 5 is one comparison.
 use borrow.Author.Needs.{needs}
-use borrow.Author.Tests.{eq-eqb, ne-eqb}
-use mathlib.Core.Path.{sym, _∙_}
-use Rattle.grid.specs.Rows.{knotOrderOk}
-use Rattle.grid.proofs.EndLaws.{ends-by}
+use mathlib.Core.Path.{refl}
+use Rattle.grid.specs.Rows.{endsOk}
 use Rattle.grid.proofs.ends.ends_ok.Statement.{statement}
 use Rattle.grid.proofs.ends.ends_ok.Tie as tie
+
+add-end : tie.Need-add-end
+add-end c = search needs
 
 sub-end : tie.Need-sub-end
 sub-end c = search needs
 
-shared-slice-read-first : tie.Need-shared-slice-read-first
-shared-slice-read-first c = search needs
+mul-result : tie.Need-mul-result
+mul-result c = search needs
 
-mul-last : tie.Need-mul-last
-mul-last c = search needs
+shared-slice-read-result : tie.Need-shared-slice-read-result
+shared-slice-read-result c = search needs
 
-shared-slice-read-last : tie.Need-shared-slice-read-last
-shared-slice-read-last c = search needs
+mul-result-2 : tie.Need-mul-result-2
+mul-result-2 c = search needs
 
-mul-if1 : tie.Need-mul-if1
-mul-if1 c = search needs
-
-shared-slice-read-if1 : tie.Need-shared-slice-read-if1
-shared-slice-read-if1 c = search needs
+shared-slice-read-result-2 : tie.Need-shared-slice-read-result-2
+shared-slice-read-result-2 c = search needs
 
 returns : tie.Need-returns
-unfolding knotOrderOk
-returns c =
-    let start = c .before .before .before .before in
-    sym (ends-by (start .args .m) (start .args .knots .now) (start .pre .0) (start .pre .1) ∙ rw (ne-eqb _ _ (c .if1 .taken)))
-
-sub-if2 : tie.Need-sub-if2
-sub-if2 c = search needs
-
-mul-if2 : tie.Need-mul-if2
-mul-if2 c = search needs
-
-shared-slice-read-if2 : tie.Need-shared-slice-read-if2
-shared-slice-read-if2 c = search needs
-
-returns-2 : tie.Need-returns-2
-unfolding knotOrderOk
-returns-2 c =
-    let start = c .before .before .before .before .before .before in
-    sym (ends-by (start .args .m) (start .args .knots .now) (start .pre .0) (start .pre .1) ∙ rw (eq-eqb _ _ (c .before .before .if1 .left), ne-eqb _ _ (c .if2 .taken)))
-
-returns-3 : tie.Need-returns-3
-unfolding knotOrderOk
-returns-3 c =
-    let start = c .before .before .before .before .before .before in
-    sym (ends-by (start .args .m) (start .args .knots .now) (start .pre .0) (start .pre .1) ∙ rw (eq-eqb _ _ (c .before .before .if1 .left), eq-eqb _ _ (c .if2 .left)))
+unfolding endsOk
+returns c = refl
 
 pub ends-ok-spec : {M : Type 1} → statement M
 ends-ok-spec =
     tie.close
     (tie.spec
+    add-end
     sub-end
-    shared-slice-read-first
-    mul-last
-    shared-slice-read-last
-    mul-if1
-    shared-slice-read-if1
-    returns
-    sub-if2
-    mul-if2
-    shared-slice-read-if2
-    returns-2
-    returns-3)
+    mul-result
+    shared-slice-read-result
+    mul-result-2
+    shared-slice-read-result-2
+    returns)

@@ -1,93 +1,76 @@
--- Row 6: what the flag says of the knots that were passed.
-use mathlib.Core.List.{List}
-use mathlib.Core.Logic.{⊎-elim}
-use mathlib.Core.Path.{_≡_}
-use Prim.Native.Nat.{ℕ, _<_, _+_, _-_}
-use native.Mathlib.Omega.{arith}
+-- Row 6: what the three runs tell is the test.
+use mathlib.Core.Bool.{true, false}
+use mathlib.Core.Path.{_≡_, sym}
+use Prim.Native.Nat.{_<_}
 use borrow.Author.Needs.{needs}
-use lib.ListN.{length, getD}
-use Rattle.grid.specs.Rows.{knotOrderOk, repeatsOk}
-use Rattle.grid.proofs.EndLaws.{ends-differ}
-use Rattle.grid.proofs.FlagLaws.{Flagged, flagged-none, flagged-wrong, flagged-right, flag-tells}
-use Rattle.grid.proofs.InnerLaws.{repeats-again, repeats-none}
+use borrow.Author.Tests.{ltb-true, not-true, not-false}
+use native.Mathlib.Omega.{arith}
+use Rattle.grid.specs.Rows.{knotOrderOk, endsOk, domainStart, domainEnd, repeatsOk}
+use Rattle.grid.proofs.FlagLaws.{flag-tells}
+use Rattle.grid.proofs.InnerLaws.{again-far, again-between, none-too-often}
 use Rattle.grid.proofs.repeats.repeats_ok.Statement.{statement}
 use Rattle.grid.proofs.repeats.repeats_ok.Tie as tie
 
--- knot j is not the last one, and equals the m-th before it
-abbrev Again : ℕ → List ℕ → ℕ → Type 0
-Again m ts j = (j < length ts - 1) × (getD ts j 0 ≡ getD ts (j - m) 0)
+add-more : tie.Need-add-more
+add-more c = search needs
 
-abbrev Inv-loop : tie.InvT-loop
-Inv-loop m knots start end fine₀ i₀ fine i = Flagged (Again m knots) (m + 1) i fine
+add-inner : tie.Need-add-inner
+add-inner c = search needs
 
-abbrev μ-loop : tie.MeasureT-loop
-μ-loop m knots start end fine₀ i₀ fine i = length knots - i
-
-add-start : tie.Need-add-start Inv-loop μ-loop
-add-start c = search needs
-
-sub-end : tie.Need-sub-end Inv-loop μ-loop
+sub-end : tie.Need-sub-end
 sub-end c = search needs
 
-loop-holds : tie.Need-loop-holds Inv-loop μ-loop
-loop-holds c =
-    flagged-none (Again (c .args .m) (c .args .knots .now)) (c .args .m + 1)
+none-again-requires : tie.Need-none-again-requires
+none-again-requires c κs = search needs
 
-mul-if1 : tie.Need-mul-if1 Inv-loop μ-loop
-mul-if1 c = omega arith
-
-shared-slice-read-if1 : tie.Need-shared-slice-read-if1 Inv-loop μ-loop
-shared-slice-read-if1 c = omega arith
-
-sub-if1 : tie.Need-sub-if1 Inv-loop μ-loop
-sub-if1 c = omega arith
-
-mul-if1-2 : tie.Need-mul-if1-2 Inv-loop μ-loop
-mul-if1-2 c = omega arith
-
-shared-slice-read-if1-2 : tie.Need-shared-slice-read-if1-2 Inv-loop μ-loop
-shared-slice-read-if1-2 c = omega arith
-
-add-i : tie.Need-add-i Inv-loop μ-loop
-add-i c = omega arith
-
-loop-less : tie.Need-loop-less Inv-loop μ-loop
-loop-less c = omega arith
-
-loop-again : tie.Need-loop-again Inv-loop μ-loop
-loop-again c =
-    let turn = c .before .before .before .before .loop in
-    ⊎-elim
-    (λ w. flagged-wrong (turn .inv) _ (omega arith, w .0 .taken) (w .1))
-    (λ w. flagged-right (turn .inv) _ (λ q. w .0 .left (q .1)) (w .1))
-    (c .if1 .came)
-
-returns : tie.Need-returns Inv-loop μ-loop
+returns : tie.Need-returns
 unfolding knotOrderOk
 returns c =
-    let start = c .before .before in
-    let turn = c .before .loop in
+    let start = c .before .before .before in
+    let again = c .before .none-again .ensures .one (not-true (c .before .none-again .result) (c .if1 .taken)) in
+    sym (again-far (start .args .m) (start .args .knots .now) (start .pre .1 .0) (again .0) (omega (arith, again .1)) (omega (arith, again .2)) (again .3))
+
+add-none-again : tie.Need-add-none-again
+add-none-again c = search needs
+
+none-again-requires-2 : tie.Need-none-again-requires-2
+none-again-requires-2 c κs = search needs
+
+returns-2 : tie.Need-returns-2
+unfolding knotOrderOk
+returns-2 c =
+    let start = c .before .before .before .before .before in
+    let again = c .before .none-again2 .ensures .one (not-true (c .before .none-again2 .result) (c .if2 .taken)) in
+    sym (again-far (start .args .m) (start .args .knots .now) (start .pre .1 .0) (again .0) (omega (arith, again .1)) (omega (arith, again .2)) (again .3))
+
+none-again-requires-3 : tie.Need-none-again-requires-3
+none-again-requires-3 c κs = search needs
+
+returns-3 : tie.Need-returns-3
+unfolding knotOrderOk endsOk
+returns-3 c =
+    let start = c .before .before .before .before .before .before in
     let m = start .args .m in
     let ts = start .args .knots .now in
-    flag-tells (turn .fine) (repeatsOk m ts)
-    (λ e. repeats-none m ts (start .pre .1 .0) (ends-differ m ts (start .pre .1 .1)) (λ j a b q. turn .inv .none e j (omega arith) a (b, q)))
-    (λ e. let again = turn .inv .one e in repeats-again m ts (start .pre .1 .0) (again .0) (again .2) (again .3 .0) (again .3 .1))
+    let wide : domainStart m ts < domainEnd m ts = ltb-true (domainStart m ts) (domainEnd m ts) (start .pre .1 .1) in
+    let left = c .before .before .before .before .none-again .ensures .none (not-false (c .before .before .before .before .none-again .result) (c .before .before .before .if1 .left)) in
+    let right = c .before .before .none-again2 .ensures .none (not-false (c .before .before .none-again2 .result) (c .before .if2 .left)) in
+    let last = c .none-again3 .ensures in
+    flag-tells (c .none-again3 .result) (repeatsOk m ts)
+    (λ e. none-too-often m ts (start .pre .1 .0) (start .pre .0) wide left right (last .none e))
+    (λ e. let again = last .one e in again-between m ts (start .pre .1 .0) (start .pre .0) wide (again .0) (again .1) (again .2) (again .3))
 
 pub repeats-ok-spec : {M : Type 1} → statement M
 repeats-ok-spec =
     tie.close
     (tie.spec
-    Inv-loop
-    μ-loop
-    add-start
+    add-more
+    add-inner
     sub-end
-    loop-holds
-    mul-if1
-    shared-slice-read-if1
-    sub-if1
-    mul-if1-2
-    shared-slice-read-if1-2
-    add-i
-    loop-less
-    loop-again
-    returns)
+    none-again-requires
+    returns
+    add-none-again
+    none-again-requires-2
+    returns-2
+    none-again-requires-3
+    returns-3)
