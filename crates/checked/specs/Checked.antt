@@ -28,3 +28,8 @@ pub record Checked (m : ℕ) (ts : List ℕ) (xs ys : List ℤ) : Type 0 where
   pub outer : (v : ℕ) → occurrences v ts ≤ m + 1
   pub gridX : (a : ℕ) → a < length xs → OnGrid (getD xs a (pos 0))
   pub gridY : (a : ℕ) → a < length ys → OnGrid (getD ys a (pos 0))
+
+-- both ends are clamped, for a curve of `count` points: the first m+1 knots are t_m, and the last m+1 are t_{n+1}
+pub record Clamped (m : ℕ) (ts : List ℕ) (count : ℕ) : Type 0 where
+  pub firsts : (a : ℕ) → a ≤ m → getD ts a 0 ≡ getD ts m 0
+  pub lasts : (a : ℕ) → count ≤ a → a < length ts → getD ts a 0 ≡ getD ts count 0
