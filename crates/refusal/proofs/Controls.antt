@@ -3,7 +3,7 @@ use mathlib.Core.List.{List, [], _∷_}
 use mathlib.Core.Path.{_≡_, refl}
 use Prim.Native.Nat.{ℕ, zero, suc, _<_}
 use native.Mathlib.Omega.{arith}
-use Rattle.refusal.specs.Numbers.{accepted, degreeRefused, pointCountRefused, knotCountRefused, knotOrderRefused, endsRefused, repeatsRefused, rangeRefused, parameterRefused, insertionRefused, fullRefused, notWholeRefused, notInnerRefused, notRemovableRefused, rectangleRefused, roomRefused, endedRefused, splinePointsRefused, joinedRangeRefused, tagRefused, lengthRefused, leftOverRefused, radiusRefused}
+use Rattle.refusal.specs.Numbers.{accepted, degreeRefused, pointCountRefused, knotCountRefused, knotOrderRefused, endsRefused, repeatsRefused, rangeRefused, parameterRefused, insertionRefused, fullRefused, notWholeRefused, notInnerRefused, notRemovableRefused, rectangleRefused, roomRefused, endedRefused, splinePointsRefused, joinedRangeRefused, tagRefused, lengthRefused, leftOverRefused, radiusRefused, unclampRefused}
 use Rattle.refusal.specs.Chain.{row, AppliesAt, AnswersFirst}
 
 -- a row that applies
@@ -24,8 +24,8 @@ second-alone answer a = (a .first 1 (omega arith)) .1 (refl, here)
 numbers : List ℕ
 numbers =
     accepted ∷ degreeRefused ∷ pointCountRefused ∷ knotCountRefused ∷ knotOrderRefused ∷ endsRefused ∷ repeatsRefused ∷ rangeRefused ∷ parameterRefused ∷ insertionRefused
-    ∷ fullRefused ∷ notWholeRefused ∷ notInnerRefused ∷ notRemovableRefused ∷ rectangleRefused ∷ roomRefused ∷ endedRefused ∷ splinePointsRefused ∷ joinedRangeRefused ∷ tagRefused ∷ lengthRefused ∷ leftOverRefused ∷ radiusRefused ∷ []
+    ∷ fullRefused ∷ notWholeRefused ∷ notInnerRefused ∷ notRemovableRefused ∷ rectangleRefused ∷ roomRefused ∷ endedRefused ∷ splinePointsRefused ∷ joinedRangeRefused ∷ tagRefused ∷ lengthRefused ∷ leftOverRefused ∷ radiusRefused ∷ unclampRefused ∷ []
 
-numbers-in-order : numbers ≡ 0 ∷ 1 ∷ 2 ∷ 3 ∷ 4 ∷ 5 ∷ 6 ∷ 7 ∷ 8 ∷ 9 ∷ 10 ∷ 11 ∷ 12 ∷ 13 ∷ 14 ∷ 15 ∷ 16 ∷ 17 ∷ 18 ∷ 19 ∷ 20 ∷ 21 ∷ 22 ∷ []
+numbers-in-order : numbers ≡ 0 ∷ 1 ∷ 2 ∷ 3 ∷ 4 ∷ 5 ∷ 6 ∷ 7 ∷ 8 ∷ 9 ∷ 10 ∷ 11 ∷ 12 ∷ 13 ∷ 14 ∷ 15 ∷ 16 ∷ 17 ∷ 18 ∷ 19 ∷ 20 ∷ 21 ∷ 22 ∷ 23 ∷ []
 unfolding numbers
 numbers-in-order = refl

@@ -16,7 +16,7 @@ knotCountRefused = 3
 abbrev pub knotOrderRefused : ℕ  -- a knot too large, or below its forerunner
 knotOrderRefused = 4
 
-abbrev pub endsRefused : ℕ  -- an end whose m+1 knots differ, or two equal ends
+abbrev pub endsRefused : ℕ  -- an empty domain
 endsRefused = 5
 
 abbrev pub repeatsRefused : ℕ  -- a value that stands too often
@@ -69,3 +69,6 @@ leftOverRefused = 21
 
 abbrev pub radiusRefused : ℕ  -- a cutter's radius above the largest
 radiusRefused = 22
+
+abbrev pub unclampRefused : ℕ  -- an end that cannot be unclamped
+unclampRefused = 23

@@ -44,3 +44,5 @@ pub const LENGTH: u32 = 20;
 pub const LEFT_OVER: u32 = 21;
 
 pub const RADIUS: u32 = 22;
+
+pub const UNCLAMP: u32 = 23;
