@@ -1,22 +1,24 @@
 -- What an entry of the triangle reads, in any arithmetic: lists read one place on give the entry one place on, and lists that
--- agree round a span give the same entry there. Others may cite `entry-shift`, `entry-same`.
+-- agree round a span give the same entry there. Others may cite `same-cell`, `entry-shift`,
+-- `entry-same`.
 use mathlib.Core.Path.{_≡_, refl, ap, _∙_}
 use Prim.Native.Nat.{ℕ, zero, suc, _+_, _-_, _≤_}
 use native.Mathlib.Omega.{arith}
 use Rattle.algebra.specs.Operations.{Operations}
 use Rattle.splines.specs.Triangle.{cell, entry}
 
-module _ (O : Operations) (m : ℕ) (t : O .Number) where
-  same-cell : {w upper low lower l left r right : O .Number} → w ≡ upper → low ≡ lower → l ≡ left → r ≡ right
-      → cell O w t low l r ≡ cell O upper t lower left right
-  same-cell p q x y = λ i. cell O (p i) t (q i) (x i) (y i)
+-- a cell over equal numbers
+pub same-cell : (O : Operations) {w upper t at low lower l left r right : O .Number}
+    → w ≡ upper → t ≡ at → low ≡ lower → l ≡ left → r ≡ right → cell O w t low l r ≡ cell O upper at lower left right
+same-cell O p s q x y = λ i. cell O (p i) (s i) (q i) (x i) (y i)
 
+module _ (O : Operations) (m : ℕ) (t : O .Number) where
   pub entry-shift : (ts ps : ℕ → O .Number) (r j : ℕ) → r ≤ j → r ≤ m
       → entry O (λ a. ts (a + 1)) (λ a. ps (a + 1)) m t r j ≡ entry O ts ps m t r (j + 1)
   unfolding entry
   entry-shift ts ps zero j h l = refl
   entry-shift ts ps (suc r) j h l =
-      same-cell (ap ts high) refl
+      same-cell O (ap ts high) refl refl
       (entry-shift ts ps r (j - 1) (omega arith) (omega arith) ∙ ap (entry O ts ps m t r) back)
       (entry-shift ts ps r j (omega arith) (omega arith))
     where
@@ -32,7 +34,7 @@ module _ (O : Operations) (m : ℕ) (t : O .Number) where
     unfolding entry
     row-same zero j h k l = points j (omega arith) l
     row-same (suc r) j h k l =
-        same-cell (knots (j + m - r) (omega arith)) (knots j (omega arith))
+        same-cell O (knots (j + m - r) (omega arith)) refl (knots j (omega arith))
         (row-same r (j - 1) (omega arith) (omega arith) (omega arith)) (row-same r j (omega arith) (omega arith) l)
 
     pub entry-same : entry O ts ps m t m i ≡ entry O us qs m t m i

@@ -2,3 +2,5 @@
 pub mod StepKnots
 pub mod EntryLaws
 pub mod StepCurve
+pub mod EndRowLaws
+pub mod StepPoints
