@@ -1,5 +1,5 @@
 -- Rows of means at an end: a row changes nothing where the outer knot has reached the end value, and what follows the rule of
--- the rows is the rows. Others may cite `start-mean`, `end-mean`, `rows-end`.
+-- the rows is the rows. Others may cite `endNumber-old`, `start-mean`, `end-mean`, `rows-end`.
 use mathlib.Core.Path.{_≡_, refl, ap, ap₂, sym, _∙_}
 use mathlib.Core.List.{[], _∷_}
 use Prim.Native.Nat.{ℕ, zero, suc, _+_, _-_, _≤_, _<_}
@@ -12,6 +12,14 @@ use Rattle.algebra.proofs.Expressions.{var, lit, _⊕_, _⊗_, _⊖_, expressio
 use Rattle.algebra.proofs.Solver.{ring, linear-combination, fact}
 use Rattle.splines.specs.Triangle.{cell}
 use Rattle.end_rows.specs.EndRows.{mean, endRow, endNumber}
+
+-- from k = m-1 on the point is the old one
+pub endNumber-old : (O : Operations) (d e ps : ℕ → O .Number) (m k : ℕ) → m ≤ k + 1 → endNumber O d e ps m k ≡ ps k
+unfolding endRow
+endNumber-old O d e ps m k h = ap (λ r. endRow O d e ps m r k) none
+  where
+    none : m - 1 - k ≡ 0
+    none = omega arith
 
 module _ (F : OrderedField) where
   open OrderedField F using (operations as O, laws)

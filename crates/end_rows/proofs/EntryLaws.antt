@@ -1,6 +1,5 @@
 -- What an entry of the triangle reads, in any arithmetic: lists read one place on give the entry one place on, and lists that
--- agree round a span give the same entry there. Others may cite `same-cell`, `entry-shift`,
--- `entry-same`.
+-- agree round a span give the same entry there. Others may cite `same-cell`, `entry-shift`, `entry-same`.
 use mathlib.Core.Path.{_≡_, refl, ap, _∙_}
 use Prim.Native.Nat.{ℕ, zero, suc, _+_, _-_, _≤_}
 use native.Mathlib.Omega.{arith}

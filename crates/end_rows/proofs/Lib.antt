@@ -4,3 +4,5 @@ pub mod EntryLaws
 pub mod StepCurve
 pub mod EndRowLaws
 pub mod StepPoints
+pub mod BothKnotLaws
+pub mod BothEndLaws

@@ -1,5 +1,5 @@
 -- Steps at an end keep the order of the knots and the curve on every span of the domain that is not empty. Nothing is asked of
--- the parameter. Others may cite `started-rising`, `started-keeps`, `ended-rising`, `ended-keeps`.
+-- the parameter. Others may cite `on`, `span-stays`, `started-rising`, `started-keeps`, `ended-rising`, `ended-keeps`.
 use mathlib.Core.Path.{_≡_, refl, ap, sym, _∙_, subst₂}
 use Prim.Native.Nat.{ℕ, zero, suc, _+_, _≤_, _<_}
 use native.Mathlib.Omega.{arith}
@@ -23,8 +23,8 @@ module _ (F : OrderedField) where
   abbrev pub on : (m : ℕ) (t : Number) (i : ℕ) → Spline O → Number
   on m t i c = entry O (c .knots) (c .points) m t m i
 
-  -- a span whose two knots stay is not empty after either
-  span-stays : (ts us : ℕ → Number) (i : ℕ) → us i ≡ ts i → us (i + 1) ≡ ts (i + 1) → Below F (ts i) (ts (i + 1)) → Below F (us i) (us (i + 1))
+  -- a span whose two knots stay is not empty if it was not
+  pub span-stays : (ts us : ℕ → Number) (i : ℕ) → us i ≡ ts i → us (i + 1) ≡ ts (i + 1) → Below F (ts i) (ts (i + 1)) → Below F (us i) (us (i + 1))
   span-stays ts us i p q h = subst₂ (λ x y. Below F x y) (sym p) (sym q) h
 
   module _ (m last : ℕ) (room : m < last) where
