@@ -35,7 +35,8 @@ module _ (F : OrderedField) where
 
   -- a cell is a mean, with the weights from the start or from the end
   pub start-mean : (w t low left right : Number) → cell O w t low left right ≡ mean O (sub O w t) left (sub O t low) right
-  start-mean w t low left right = ap (div O _) (ring (fieldRing F) (w ∷ t ∷ low ∷ []) (var 0 ⊖ var 2) (var 0 ⊖ var 1 ⊕ (var 1 ⊖ var 2)) refl)
+  start-mean w t low left right =
+      ap (div O _) (ring (fieldRing F) (w ∷ t ∷ low ∷ []) (var 0 ⊖ var 2) (var 0 ⊖ var 1 ⊕ (var 1 ⊖ var 2)) refl)
 
   pub end-mean : (w t low left right : Number) → cell O w t low left right ≡ mean O (sub O t low) right (sub O w t) left
   end-mean w t low left right =

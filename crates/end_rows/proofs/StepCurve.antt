@@ -24,7 +24,8 @@ module _ (F : OrderedField) where
   on m t i c = entry O (c .knots) (c .points) m t m i
 
   -- a span whose two knots stay is not empty if it was not
-  pub span-stays : (ts us : ℕ → Number) (i : ℕ) → us i ≡ ts i → us (i + 1) ≡ ts (i + 1) → Below F (ts i) (ts (i + 1)) → Below F (us i) (us (i + 1))
+  pub span-stays : (ts us : ℕ → Number) (i : ℕ) → us i ≡ ts i → us (i + 1) ≡ ts (i + 1) → Below F (ts i) (ts (i + 1))
+      → Below F (us i) (us (i + 1))
   span-stays ts us i p q h = subst₂ (λ x y. Below F x y) (sym p) (sym q) h
 
   module _ (m last : ℕ) (room : m < last) where

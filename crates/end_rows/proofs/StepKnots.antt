@@ -1,5 +1,5 @@
--- The knots after r steps at an end, place by place, in any arithmetic. Others may cite `start-knot-outside`, `start-knot-end`,
--- `start-knot-inside`, `end-knot-inside`, `end-knot-end`, `end-knot-outside`.
+-- The knots after r steps at an end, place by place. Others may cite `start-knot-outside`, `start-knot-end`, `start-knot-inside`,
+-- `end-knot-inside`, `end-knot-end`, `end-knot-outside`.
 use mathlib.Core.Path.{_≡_, refl, ap, _∙_}
 use Prim.Native.Nat.{ℕ, zero, suc, _+_, _-_, _≤_, _<_}
 use native.Mathlib.Omega.{arith}
