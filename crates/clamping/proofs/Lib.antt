@@ -1,1 +1,2 @@
 -- Laws of clamping.
+mod Controls

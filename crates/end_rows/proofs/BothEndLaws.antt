@@ -10,9 +10,10 @@ use Rattle.algebra.specs.Operations.{Operations}
 use Rattle.algebra.specs.OrderedField.{OrderedField, Below}
 use Rattle.splines.specs.Triangle.{entry}
 use Rattle.splines.specs.Span.{Rising}
+use Rattle.span_points.proofs.SpanPointLaws.{span-fixes-points}
 use Rattle.end_rows.specs.EndRows.{startNumber, finishNumber}
 use Rattle.end_rows.specs.Steps.{Spline, started, ended}
-use Rattle.end_rows.specs.BothEnds.{bothKnots, bothPoints, SpanFixesPoints}
+use Rattle.end_rows.specs.BothEnds.{bothKnots, bothPoints}
 use Rattle.end_rows.proofs.EntryLaws.{entry-same}
 use Rattle.end_rows.proofs.StepKnots.{start-knot-inside, end-knot-inside}
 use Rattle.end_rows.proofs.StepCurve.{on, started-rising, started-keeps, ended-rising, ended-keeps, span-stays}
@@ -91,11 +92,11 @@ module _ (F : OrderedField) where
           ∙ started-keeps F m (last + m) (omega arith) end end-rising m t i mi (omega arith) (end-span i up some)
           ∙ ended-keeps F m n last (omega arith) c rising m t i mi up (omega arith) some
 
-      module _ (unique : SpanFixesPoints F) (short : m + m ≤ n + 3) where
+      module _ (short : m + m ≤ n + 3) where
         -- so the points that carry the span are the same in either order
         same-points : (j : ℕ) → i ≤ j + m → j ≤ i → startEnd .points j ≡ endStart .points j
         same-points =
-            unique (bothKnots O ts m n) (startEnd .points) (endStart .points) m i
+            span-fixes-points F (bothKnots O ts m n) (startEnd .points) (endStart .points) m i
             (λ a b h l. both-rising F c m n room last rising ends a b h (omega arith)) mi
             (span-stays F ts (bothKnots O ts m n) i (both-knot-inside F c m n room i mi (omega arith))
             (both-knot-inside F c m n room (i + 1) (omega arith) (omega arith)) some)

@@ -1,12 +1,8 @@
 -- Both ends clamped at once, over any arithmetic: the knots and the points.
 use mathlib.Core.Bool.{cond}
-use mathlib.Core.Path.{_≡_}
-use Prim.Native.Nat.{ℕ, _+_, _≤_}
+use Prim.Native.Nat.{ℕ, _+_}
 use lib.Dec.{leb}
 use Rattle.algebra.specs.Operations.{Operations}
-use Rattle.algebra.specs.OrderedField.{OrderedField, AtMost, Below}
-use Rattle.splines.specs.Triangle.{entry}
-use Rattle.splines.specs.Span.{Rising}
 use Rattle.end_rows.specs.EndRows.{startNumber, finishNumber}
 
 -- t_m up to index m, then the old knots, then t_{n+1} from index n+1 on
@@ -16,11 +12,3 @@ bothKnots O ts m n j = cond (leb j m) (ts m) (cond (leb j n) (ts j) (ts (n + 1))
 -- the first m-1 points are those of the clamped start, the others those of the clamped end; between the ends these are the old points
 unfoldable pub bothPoints : (O : Operations) (ts ps : ℕ → O .Number) (m n : ℕ) → ℕ → O .Number
 bothPoints O ts ps m n j = cond (leb (j + 2) m) (startNumber O ts ps m j) (finishNumber O ts ps m n j)
-
--- the curve on a span that is not empty fixes the points that carry it; to be imported from the crate that proves it
-abbrev pub SpanFixesPoints : (F : OrderedField) → Type 0
-SpanFixesPoints F =
-    (ts ps qs : ℕ → F .operations .Number) (m i : ℕ) → Rising F ts (i + m) → m ≤ i → Below F (ts i) (ts (i + 1))
-    → ((t : F .operations .Number) → AtMost F (ts i) t → AtMost F t (ts (i + 1))
-    → entry (F .operations) ts ps m t m i ≡ entry (F .operations) ts qs m t m i)
-    → (j : ℕ) → i ≤ j + m → j ≤ i → ps j ≡ qs j
