@@ -44,7 +44,7 @@ module _ (F : OrderedField) where
 
   -- the number halfway between a and b lies between them, since it is as far from the one as from the other
   module _ (a b : Number) where
-    halfway : Number
+    pub halfway : Number
     halfway = mul (add a b) (inv (numeral O 2))
 
     halfway-even : sub O halfway b ≡ sub O a halfway
@@ -54,14 +54,14 @@ module _ (F : OrderedField) where
         ((var 0 ⊕ var 1) ⊗ var 2 ⊖ var 1) (var 0 ⊖ (var 0 ⊕ var 1) ⊗ var 2)
         (fact (var 0 ⊕ var 1) (lit 2 ⊗ var 2) (lit 1) ∷ []) (laws .mul-inv (numeral O 2) (numeral-apart 1), tt) refl
 
-    above-halfway : Below F a b → Below F a halfway
+    pub above-halfway : Below F a b → Below F a halfway
     above-halfway h =
         Order.below-of-not-atMost F a halfway
         (λ l.
         Order.not-atMost-of-below F a b h
         (Order.atMost-trans F b halfway a (Order.sign-equal F _ _ true (sym halfway-even) l) l))
 
-    below-halfway : Below F a b → Below F halfway b
+    pub below-halfway : Below F a b → Below F halfway b
     below-halfway h =
         Order.below-of-not-atMost F halfway b
         (λ l.

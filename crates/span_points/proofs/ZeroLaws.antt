@@ -19,7 +19,7 @@ use Rattle.splines.proofs.CellLaws.{cell-at-low, cell-at-high}
 use Rattle.splines.proofs.SpanLaws.{apart-round}
 use Rattle.splines.proofs.TriangleLaws.{row}
 use Rattle.span_points.proofs.Polynomials.{Smooth}
-use Rattle.span_points.proofs.RootLaws.{poly-zero, slope-zero, numeral-apart}
+use Rattle.span_points.proofs.RootLaws.{halfway, above-halfway, below-halfway, poly-zero, slope-zero, numeral-apart}
 use Rattle.span_points.proofs.SlopeLaws.{entrySlope, entry-smooth, entry-slope}
 
 module _ (F : OrderedField) where
@@ -38,10 +38,10 @@ module _ (F : OrderedField) where
       ∷ fact (var 2) (var 4) (lit 0)
       ∷ []) (e, (flat, (none, tt))) refl)
 
-  -- the curve is zero on span i
+  -- the curve is zero on span i, its right end left out
   abbrev pub ZeroOn : (ts ps : ℕ → Number) (m i : ℕ) → Type 0
   ZeroOn ts ps m i =
-      (t : Number) → AtMost F (ts i) t → AtMost F t (ts (i + 1)) → entry O ts ps m t m i ≡ O .zero
+      (t : Number) → AtMost F (ts i) t → Below F t (ts (i + 1)) → entry O ts ps m t m i ≡ O .zero
 
   module _ (ts ps : ℕ → Number) (m i : ℕ) (rising : Rising F ts (i + suc m)) (from : suc m ≤ i)
       (some : Below F (ts i) (ts (i + 1))) where
@@ -58,8 +58,8 @@ module _ (F : OrderedField) where
 
         everywhere : (t : Number) → entry O ts ps (suc m) t (suc m) i ≡ O .zero
         everywhere =
-            poly-zero F (suc m) _ (smooth .poly) (ts i) (ts (i + 1)) some
-            (λ t l u. none t (Order.atMost-of-below F (ts i) t l) u)
+            poly-zero F (suc m) _ (smooth .poly) (ts i) (halfway F (ts i) (ts (i + 1))) (above-halfway F (ts i) (ts (i + 1)) some)
+            (λ t l u. none t (Order.atMost-of-below F (ts i) t l) (Order.atMost-below-trans F t _ (ts (i + 1)) u (below-halfway F (ts i) (ts (i + 1)) some)))
 
     -- from the row at v, for every v, to the control numbers
     ends-zero : ((v : Number) (j : ℕ) → i ≤ j + m → j ≤ i → row F ts v ps m j ≡ O .zero)
@@ -84,7 +84,7 @@ module _ (F : OrderedField) where
       → ZeroOn ts ps m i → (j : ℕ) → i ≤ j + m → j ≤ i → ps j ≡ O .zero
   unfolding entry
   zero-span zero ts ps i rising from some none j h l =
-      ap ps same ∙ none (ts i) (Order.atMost-refl F (ts i)) (Order.atMost-of-below F (ts i) (ts (i + 1)) some)
+      ap ps same ∙ none (ts i) (Order.atMost-refl F (ts i)) some
     where
       same : j ≡ i
       same = omega arith

@@ -8,6 +8,6 @@ use Rattle.splines.specs.Span.{Rising}
 abbrev pub SpanFixesPoints : OrderedField → Type 0
 SpanFixesPoints F =
     (ts ps qs : ℕ → F .operations .Number) (m i : ℕ) → Rising F ts (i + m) → m ≤ i → Below F (ts i) (ts (i + 1))
-    → ((t : F .operations .Number) → AtMost F (ts i) t → AtMost F t (ts (i + 1))
+    → ((t : F .operations .Number) → AtMost F (ts i) t → Below F t (ts (i + 1))
     → entry (F .operations) ts ps m t m i ≡ entry (F .operations) ts qs m t m i)
     → (j : ℕ) → i ≤ j + m → j ≤ i → ps j ≡ qs j
