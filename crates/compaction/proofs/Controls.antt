@@ -14,7 +14,7 @@ use Rattle.curve.specs.Lists.{Lists, lists}
 use Rattle.curve.specs.HandingOver.{enough}
 use Rattle.span.specs.Span.{strictlyInside}
 use Rattle.signed.specs.Division.{divides}
-use Rattle.grid.specs.Rows.{degreeOk, pointCountOk, knotCountOk, risesFrom, knotOrderOk, allAre, endsOk, occurrences, repeatsMost, repeatsWithin, repeatsOk, onGrid, allOnGrid, rangeOk}
+use Rattle.grid.specs.Rows.{degreeOk, pointCountOk, knotCountOk, risesFrom, knotOrderOk, endsOk, occurrences, repeatsMost, repeatsWithin, repeatsOk, onGrid, allOnGrid, rangeOk}
 use Rattle.grid.specs.Check.{checkedThen}
 use Rattle.checked.proofs.TestLaws.{every-passes}
 use Rattle.checked.proofs.OccurrenceLaws.{stands-at}
@@ -79,11 +79,11 @@ unfoldable pub never : Lists
 never = lists (0 ∷ 0 ∷ 0 ∷ 4 ∷ 4 ∷ 4 ∷ []) (pos 0 ∷ pos 4 ∷ pos 8 ∷ []) (pos 0 ∷ pos 8 ∷ pos 0 ∷ [])
 
 first-goes : Removes 2 2 twice once
-unfolding twice once withoutOne enough strictlyInside divides degreeOk pointCountOk knotCountOk risesFrom knotOrderOk allAre endsOk occurrences repeatsMost repeatsWithin repeatsOk onGrid allOnGrid rangeOk checkedThen knotsUpTo insertionSpan insertedKnots weightedSum weight insertedPoint entries insertedPoints wholeFrom wholePoints valueOk placeOk wholeOk insertableThen insertionNumber
+unfolding twice once withoutOne enough strictlyInside divides degreeOk pointCountOk knotCountOk risesFrom knotOrderOk endsOk occurrences repeatsMost repeatsWithin repeatsOk onGrid allOnGrid rangeOk checkedThen knotsUpTo insertionSpan insertedKnots weightedSum weight insertedPoint entries insertedPoints wholeFrom wholePoints valueOk placeOk wholeOk insertableThen insertionNumber
 first-goes = record { fewer = refl; accepts = refl; gives = refl }
 
 second-goes : Removes 2 2 once never
-unfolding once never withoutOne enough strictlyInside divides degreeOk pointCountOk knotCountOk risesFrom knotOrderOk allAre endsOk occurrences repeatsMost repeatsWithin repeatsOk onGrid allOnGrid rangeOk checkedThen knotsUpTo insertionSpan insertedKnots weightedSum weight insertedPoint entries insertedPoints wholeFrom wholePoints valueOk placeOk wholeOk insertableThen insertionNumber
+unfolding once never withoutOne enough strictlyInside divides degreeOk pointCountOk knotCountOk risesFrom knotOrderOk endsOk occurrences repeatsMost repeatsWithin repeatsOk onGrid allOnGrid rangeOk checkedThen knotsUpTo insertionSpan insertedKnots weightedSum weight insertedPoint entries insertedPoints wholeFrom wholePoints valueOk placeOk wholeOk insertableThen insertionNumber
 second-goes = record { fewer = refl; accepts = refl; gives = refl }
 
 pub double-goes : CompactsTo 2 twice never
@@ -101,11 +101,11 @@ unfoldable pub no-value : Lists
 no-value = lists (0 ∷ 0 ∷ 0 ∷ 4 ∷ 4 ∷ 4 ∷ []) (pos 0 ∷ pos 8 ∷ pos 16 ∷ []) (pos 0 ∷ pos 16 ∷ pos 0 ∷ [])
 
 left-goes : Removes 2 1 both-values one-value
-unfolding both-values one-value withoutOne enough strictlyInside divides degreeOk pointCountOk knotCountOk risesFrom knotOrderOk allAre endsOk occurrences repeatsMost repeatsWithin repeatsOk onGrid allOnGrid rangeOk checkedThen knotsUpTo insertionSpan insertedKnots weightedSum weight insertedPoint entries insertedPoints wholeFrom wholePoints valueOk placeOk wholeOk insertableThen insertionNumber
+unfolding both-values one-value withoutOne enough strictlyInside divides degreeOk pointCountOk knotCountOk risesFrom knotOrderOk endsOk occurrences repeatsMost repeatsWithin repeatsOk onGrid allOnGrid rangeOk checkedThen knotsUpTo insertionSpan insertedKnots weightedSum weight insertedPoint entries insertedPoints wholeFrom wholePoints valueOk placeOk wholeOk insertableThen insertionNumber
 left-goes = record { fewer = refl; accepts = refl; gives = refl }
 
 right-goes : Removes 2 2 one-value no-value
-unfolding one-value no-value withoutOne enough strictlyInside divides degreeOk pointCountOk knotCountOk risesFrom knotOrderOk allAre endsOk occurrences repeatsMost repeatsWithin repeatsOk onGrid allOnGrid rangeOk checkedThen knotsUpTo insertionSpan insertedKnots weightedSum weight insertedPoint entries insertedPoints wholeFrom wholePoints valueOk placeOk wholeOk insertableThen insertionNumber
+unfolding one-value no-value withoutOne enough strictlyInside divides degreeOk pointCountOk knotCountOk risesFrom knotOrderOk endsOk occurrences repeatsMost repeatsWithin repeatsOk onGrid allOnGrid rangeOk checkedThen knotsUpTo insertionSpan insertedKnots weightedSum weight insertedPoint entries insertedPoints wholeFrom wholePoints valueOk placeOk wholeOk insertableThen insertionNumber
 right-goes = record { fewer = refl; accepts = refl; gives = refl }
 
 pub both-go : CompactsTo 2 both-values no-value
@@ -161,7 +161,7 @@ two-stays r =
     eqb-false 5 4 refl (ap natAbs (walk-ends three 2 1 r (0 ∷ 0 ∷ 0 ∷ 1 ∷ 3 ∷ 4 ∷ 4 ∷ 4 ∷ []) refl refl (omega arith) (omega arith) (omega arith)))
 
 three-goes : Removes 2 3 three without-three
-unfolding three without-three withoutOne enough strictlyInside divides degreeOk pointCountOk knotCountOk risesFrom knotOrderOk allAre endsOk occurrences repeatsMost repeatsWithin repeatsOk onGrid allOnGrid rangeOk checkedThen knotsUpTo insertionSpan insertedKnots weightedSum weight insertedPoint entries insertedPoints wholeFrom wholePoints valueOk placeOk wholeOk insertableThen insertionNumber
+unfolding three without-three withoutOne enough strictlyInside divides degreeOk pointCountOk knotCountOk risesFrom knotOrderOk endsOk occurrences repeatsMost repeatsWithin repeatsOk onGrid allOnGrid rangeOk checkedThen knotsUpTo insertionSpan insertedKnots weightedSum weight insertedPoint entries insertedPoints wholeFrom wholePoints valueOk placeOk wholeOk insertableThen insertionNumber
 three-goes = record { fewer = refl; accepts = refl; gives = refl }
 
 pub one-pass : CompactsTo 2 three without-three
@@ -172,5 +172,5 @@ one-pass =
     (next (is-next 2 2 3 three refl) (goesOn three-goes (stays (gone 2 3 without-three refl))) (done (none-next 2 3 without-three refl))))
 
 second-pass-takes : Removes 2 2 without-three without-two
-unfolding without-three without-two withoutOne enough strictlyInside divides degreeOk pointCountOk knotCountOk risesFrom knotOrderOk allAre endsOk occurrences repeatsMost repeatsWithin repeatsOk onGrid allOnGrid rangeOk checkedThen knotsUpTo insertionSpan insertedKnots weightedSum weight insertedPoint entries insertedPoints wholeFrom wholePoints valueOk placeOk wholeOk insertableThen insertionNumber
+unfolding without-three without-two withoutOne enough strictlyInside divides degreeOk pointCountOk knotCountOk risesFrom knotOrderOk endsOk occurrences repeatsMost repeatsWithin repeatsOk onGrid allOnGrid rangeOk checkedThen knotsUpTo insertionSpan insertedKnots weightedSum weight insertedPoint entries insertedPoints wholeFrom wholePoints valueOk placeOk wholeOk insertableThen insertionNumber
 second-pass-takes = record { fewer = refl; accepts = refl; gives = refl }
