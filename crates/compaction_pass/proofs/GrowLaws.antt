@@ -13,6 +13,8 @@ use Rattle.refusal.proofs.JudgingLaws.{both}
 use Rattle.grid.proofs.CheckLaws.{passes-tests}
 use Rattle.grid.proofs.SizeLaws.{sizes-of-passes}
 use Rattle.insertion.proofs.OrderLaws.{either}
+use Rattle.insertion.specs.Insertion.{knotsUpTo}
+use Rattle.insertion.proofs.SpanLaws.{knotsUpTo-below}
 use Rattle.insertion.proofs.CheckedLaws.{rises-of-test, sizes-of-grid}
 use Rattle.curve.specs.Lists.{Lists}
 use Rattle.compaction.specs.Compaction.{IsNext, Pass, done, next}
@@ -20,8 +22,8 @@ use Rattle.value_removal.specs.Work.{frontCurve, frontThen, CurvePasses, Holdin
 use Rattle.compaction_pass.specs.Outcome.{PassOutcome}
 use Rattle.value_removal.proofs.PartLaws.{glue-front, glue-length}
 use Rattle.compaction_pass.proofs.FrontLaws.{copied-front, curve-is}
+use Rattle.compaction_pass.proofs.FirstLaws.{first-least, first-above, points-reach, others-reach, knots-reach}
 use Rattle.checked.proofs.OccurrenceLaws.{occurs-at, stands-at}
-use Rattle.compaction.proofs.PassLaws.{repeats-least}
 
 -- one entry moves from what is to come to what has come
 one-moves : {A : Type 0} (d : A) (k t : ℕ) (l source : List A) → k < length l → t < length source
@@ -58,42 +60,42 @@ module _ (m : ℕ) (c : Lists) (passing : CurvePasses m c) (ks₀ : List ℕ) (x
   held ks xs ys a b d =
       record { roomKnots = omega (arith, hold .roomKnots); roomXs = omega (arith, hold .roomXs); roomYs = omega (arith, hold .roomYs) }
 
-  -- the first m + 1 points
-  pub growth-begins : (ks : List ℕ) (xs ys : List ℤ)
-      → ks ≡ over (take (length ks₀) (take (m + 1 + (m + 1)) (c .knots))) ks₀
-      → xs ≡ over (take (length xs₀) (take (m + 1) (c .xs))) xs₀
-      → ys ≡ over (take (length ys₀) (take (m + 1) (c .ys))) ys₀
+  -- as many points as there are knots up to t_m
+  pub growth-begins : (first : ℕ) (ks : List ℕ) (xs ys : List ℤ) → first ≡ knotsUpTo (getD (c .knots) m 0) (c .knots)
+      → ks ≡ over (take (length ks₀) (take (first + m + 1) (c .knots))) ks₀
+      → xs ≡ over (take (length xs₀) (take first (c .xs))) xs₀
+      → ys ≡ over (take (length ys₀) (take first (c .ys))) ys₀
       → length ks ≡ length ks₀ → length xs ≡ length xs₀ → length ys ≡ length ys₀
-      → Growth m c ks xs ys ks xs ys (m + 1) (m + 1)
-  growth-begins ks xs ys ek ex ey lk lx ly =
-      let s = sizes-of-passes m (c .knots) (c .xs) (c .ys) passing in
-      let ends : m + 1 + m + 1 ≡ m + 1 + (m + 1) = omega arith in
-      let fk = copied-front (take (m + 1 + (m + 1)) (c .knots)) ks₀ ks (m + 1 + (m + 1))
-      (length-take-le (m + 1 + (m + 1)) (c .knots) (omega (arith, s .knots, s .enough))) (omega (arith, hold .roomKnots, s .enough)) ek in
-      let fx = copied-front (take (m + 1) (c .xs)) xs₀ xs (m + 1) (length-take-le (m + 1) (c .xs) (s .enough)) (omega (arith, hold .roomXs, s .enough)) ex in
-      let fy = copied-front (take (m + 1) (c .ys)) ys₀ ys (m + 1) (length-take-le (m + 1) (c .ys) (omega (arith, s .enough, s .as-many))) (omega (arith, hold .roomYs, s .enough)) ey in
-      let whole : comes m c (m + 1) (m + 1) ks xs ys ≡ c =
-      curve-is c (take (m + 1 + m + 1) ks ++ drop (m + 1 + m + 1) (c .knots)) (take (m + 1) xs ++ drop (m + 1) (c .xs)) (take (m + 1) ys ++ drop (m + 1) (c .ys))
-      (rw (ends, fk) (take-append-drop (m + 1 + (m + 1)) (c .knots)))
-      (rw fx (take-append-drop (m + 1) (c .xs)))
-      (rw fy (take-append-drop (m + 1) (c .ys))) in
-      let entry : (j : ℕ) → j < m + 1 + m + 1 → getD ks j 0 ≡ getD (c .knots) j 0 =
-      λ j h. sym (glue-front 0 (m + 1 + m + 1) ks (drop (m + 1 + m + 1) (c .knots)) j (omega (arith, hold .roomKnots, s .enough)) h)
+      → Growth m c ks xs ys ks xs ys first first
+  growth-begins first ks xs ys ef ek ex ey lk lx ly =
+      let least = first-least m (c .knots) (c .xs) (c .ys) passing in
+      let most = points-reach m (c .knots) (c .xs) (c .ys) passing first ef in
+      let fk = copied-front (take (first + m + 1) (c .knots)) ks₀ ks (first + m + 1)
+      (length-take-le (first + m + 1) (c .knots) (knots-reach m (c .knots) (c .xs) (c .ys) passing first ef)) (omega (arith, hold .roomKnots, most)) ek in
+      let fx = copied-front (take first (c .xs)) xs₀ xs first (length-take-le first (c .xs) most) (omega (arith, hold .roomXs, most)) ex in
+      let fy = copied-front (take first (c .ys)) ys₀ ys first (length-take-le first (c .ys) (others-reach m (c .knots) (c .xs) (c .ys) passing first ef)) (omega (arith, hold .roomYs, most)) ey in
+      let whole : comes m c first first ks xs ys ≡ c =
+      curve-is c (take (first + m + 1) ks ++ drop (first + m + 1) (c .knots)) (take first xs ++ drop first (c .xs)) (take first ys ++ drop first (c .ys))
+      (rw fk (take-append-drop (first + m + 1) (c .knots)))
+      (rw fx (take-append-drop first (c .xs)))
+      (rw fy (take-append-drop first (c .ys))) in
+      let entry : (j : ℕ) → j < first + m + 1 → getD ks j 0 ≡ getD (c .knots) j 0 =
+      λ j h. sym (glue-front 0 (first + m + 1) ks (drop (first + m + 1) (c .knots)) j (omega (arith, hold .roomKnots, most)) h)
       ∙ ap (λ (x : Lists). getD (x .knots) j 0) whole in
       record {
         sizeKnots = refl;
         sizeXs = refl;
         sizeYs = refl;
-        enough = omega arith;
+        enough = omega (arith, ef, least);
         fewer = omega arith;
-        inside = s .enough;
+        inside = most;
         passes = subst (λ (x : Lists). CurvePasses m x) (sym whole) passing;
-        first = entry m (omega arith);
+        first = entry m (omega (arith, ef, least));
         low = getD (c .knots) m 0;
         above = omega arith;
-        below = omega (arith, entry (m + 1) (omega arith), repeats-least m c passing);
+        below = rw (entry first (omega arith), ef) (first-above m (c .knots) (c .xs) (c .ys) passing);
         pending = λ j h more.
-            absurd (omega (arith, entry j (omega arith), rises-of-test (c .knots) (passes-tests m (c .knots) (c .xs) (c .ys) passing .order) j m (omega arith) (omega (arith, s .knots))));
+            absurd (omega (arith, entry j (omega arith), knotsUpTo-below (getD (c .knots) m 0) (c .knots) j (omega (arith, ef))));
         chain = λ e p. subst (λ (x : Lists). Pass m (getD (c .knots) m 0) x e) whole p;
       }
 

@@ -1,3 +1,4 @@
 -- Laws of one pass in working lists.
 pub mod FrontLaws
+pub mod FirstLaws
 pub mod GrowLaws

@@ -26,9 +26,8 @@ pub fn compact_into(
 {
     let n = xs.len();
     let width = m + 1;
-    start::copy_first(width, knots, xs, ys, front_knots, front_xs, front_ys);
-    let mut left = width;
-    let mut taken = width;
+    let mut left = start::copy_first(m, knots, xs, ys, front_knots, front_xs, front_ys);
+    let mut taken = left;
     while taken < n {
         front_knots[left + width] = knots[taken + width];
         front_xs[left] = xs[taken];

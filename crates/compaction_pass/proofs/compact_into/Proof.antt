@@ -28,16 +28,14 @@ add-width c =
 copy-first-requires : tie.Need-copy-first-requires Inv-loop μ-loop
 copy-first-requires c κs =
     let s = c .before .before .before .before .before in
-    let a = s .args in
-    let z = sizes-of-passes (a .m) (a .knots .now) (a .xs .now) (a .ys .now) (s .pre .0) in
-    (omega (arith, z .knots, z .enough), (z .enough, omega (arith, z .enough, z .as-many)))
+    s .pre .0
 
 loop-holds : tie.Need-loop-holds Inv-loop μ-loop
 loop-holds c =
     let s = c .before .before .before .before .before .before .before .before .before .before in
     let a = s .args in
     let f = c .before .before .before .before .copy-first in
-    growth-begins (a .m) (record { knots = a .knots .now; xs = a .xs .now; ys = a .ys .now }) (s .pre .0) (a .front-knots .now) (a .front-xs .now) (a .front-ys .now) (s .pre .1) (f .last .1 .1 .1 .1 .0) (f .last .1 .1 .1 .1 .1 .0) (f .last .1 .1 .1 .1 .1 .1 .0) (f .ensures .0) (f .ensures .1) (f .ensures .2) (f .kept .1 .1 .1 .1 .0) (f .kept .1 .1 .1 .1 .1 .0) (f .kept .1 .1 .1 .1 .1 .1 .0)
+    growth-begins (a .m) (record { knots = a .knots .now; xs = a .xs .now; ys = a .ys .now }) (s .pre .0) (a .front-knots .now) (a .front-xs .now) (a .front-ys .now) (s .pre .1) (f .result) (f .last .1 .1 .1 .1 .0) (f .last .1 .1 .1 .1 .1 .0) (f .last .1 .1 .1 .1 .1 .1 .0) (f .ensures .0) (f .ensures .1 .0) (f .ensures .1 .1) (f .ensures .1 .2) (f .kept .1 .1 .1 .1 .0) (f .kept .1 .1 .1 .1 .1 .0) (f .kept .1 .1 .1 .1 .1 .1 .0)
 
 add-front-knots : tie.Need-add-front-knots Inv-loop μ-loop
 add-front-knots c =
@@ -130,8 +128,8 @@ shared-slice-copy-out-front-ys c =
     let z = sizes-of-passes (a .m) (a .knots .now) (a .xs .now) (a .ys .now) (s .pre .0) in
     omega (arith, c .before .before .loop-test .taken, z .as-many)
 
-mul-t25 : tie.Need-mul-t25 Inv-loop μ-loop
-mul-t25 c =
+mul-t24 : tie.Need-mul-t24 Inv-loop μ-loop
+mul-t24 c =
     let s = c .before .before .before .before .before .before .before .before .before .before .before .before .before .before .before in
     let a = s .args in
     let l = c .before .before .before .before .loop in
@@ -235,7 +233,7 @@ compact-into-spec =
     slice-set-from-front-ys
     mul-front-ys-2
     shared-slice-copy-out-front-ys
-    mul-t25
+    mul-t24
     slice-set-from-front-ys-2
     add-remove-value
     remove-value-requires
