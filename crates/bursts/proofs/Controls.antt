@@ -9,7 +9,7 @@ use lib.ListN.{length, take, drop}
 use Rattle.grid.specs.Limits.{jobMost}
 use Rattle.curve.specs.Lists.{Lists, lists}
 use Rattle.curve.specs.HandingOver.{enough}
-use Rattle.grid.specs.Rows.{degreeOk, pointCountOk, knotCountOk, risesFrom, knotOrderOk, allAre, endsOk, occurrences, repeatsMost, repeatsWithin, repeatsOk, onGrid, allOnGrid, rangeOk, axisOk, rectangleOk, radiusOk}
+use Rattle.grid.specs.Rows.{degreeOk, pointCountOk, knotCountOk, risesFrom, knotOrderOk, endsOk, occurrences, repeatsMost, repeatsWithin, repeatsOk, onGrid, allOnGrid, rangeOk, axisOk, rectangleOk, radiusOk}
 use Rattle.grid.specs.Check.{checkedThen}
 use Rattle.format.specs.Format.{form1, recordBytes}
 use Rattle.format.proofs.Controls.{curveA}
@@ -76,7 +76,7 @@ abbrev sidePlaces : List ℤ
 sidePlaces = pos 0 ∷ pos 0 ∷ pos 0 ∷ pos 0 ∷ pos 0 ∷ pos 0 ∷ pos 0 ∷ pos 0 ∷ pos 0 ∷ pos 0 ∷ pos 0 ∷ pos 0 ∷ []
 
 jobA-read : JobRead jobA places sidePlaces (Job 3 4 0 3) curveA (allSides clampsA)
-unfolding jobNumber enough clampsOk rectangleOk axisOk radiusOk checkedThen degreeOk pointCountOk knotCountOk risesFrom knotOrderOk allAre endsOk occurrences repeatsMost repeatsWithin repeatsOk onGrid allOnGrid rangeOk jobA jobBytes recordBytes curveA clampsA
+unfolding jobNumber enough clampsOk rectangleOk axisOk radiusOk checkedThen degreeOk pointCountOk knotCountOk risesFrom knotOrderOk endsOk occurrences repeatsMost repeatsWithin repeatsOk onGrid allOnGrid rangeOk jobA jobBytes recordBytes curveA clampsA
 jobA-read =
     record {
       verdict = judged 0;

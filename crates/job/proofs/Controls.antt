@@ -6,7 +6,7 @@ use lib.ListN.{length, take}
 use Prim.Native.Nat.{ℕ}
 use Rattle.curve.specs.Lists.{Lists, lists}
 use Rattle.curve.specs.HandingOver.{enough}
-use Rattle.grid.specs.Rows.{degreeOk, pointCountOk, knotCountOk, risesFrom, knotOrderOk, allAre, endsOk, occurrences, repeatsMost, repeatsWithin, repeatsOk, onGrid, allOnGrid, rangeOk, axisOk, rectangleOk, radiusOk}
+use Rattle.grid.specs.Rows.{degreeOk, pointCountOk, knotCountOk, risesFrom, knotOrderOk, endsOk, occurrences, repeatsMost, repeatsWithin, repeatsOk, onGrid, allOnGrid, rangeOk, axisOk, rectangleOk, radiusOk}
 use Rattle.grid.specs.Check.{checkedThen}
 use Rattle.format.specs.Format.{form1, recordBytes}
 use Rattle.format.proofs.Controls.{curveA, line}
@@ -92,7 +92,7 @@ numbers : jobNumber 1 (segment 262145) 4097 crossed (segment 0) 0 ∷ jobNumber 
     ∷ jobNumber 1 (segment 8) 4096 crossed (segment 0) 0 ∷ jobNumber 1 (segment 8) 4097 two (segment 0) 7
     ∷ jobNumber 1 (segment 8) 4096 two (segment 0) 7 ∷ jobNumber 1 (segment 8) 0 two (lists [] [] []) 8 ∷ jobNumber 1 (segment 8) 4096 two (segment 0) 8 ∷ []
     ≡ 7 ∷ 22 ∷ 14 ∷ 22 ∷ 15 ∷ 15 ∷ 0 ∷ []
-unfolding jobNumber enough clampsOk rectangleOk axisOk radiusOk two checkedThen degreeOk pointCountOk knotCountOk risesFrom knotOrderOk allAre endsOk occurrences repeatsMost repeatsWithin repeatsOk onGrid allOnGrid rangeOk
+unfolding jobNumber enough clampsOk rectangleOk axisOk radiusOk two checkedThen degreeOk pointCountOk knotCountOk risesFrom knotOrderOk endsOk occurrences repeatsMost repeatsWithin repeatsOk onGrid allOnGrid rangeOk
 numbers = refl
 
 read-or-refused : jobAnswer (judged 0) 3 4 150 2 ∷ jobAnswer (judged 14) 3 4 150 2 ∷ jobAnswer (broken 19 61) 3 4 150 2 ∷ [] ≡ Job 3 4 150 2 ∷ Refused 14 ∷ Broken 19 61 ∷ []

@@ -8,7 +8,7 @@ use native.Mathlib.Omega.{arith}
 use lib.IntN.{ℤ}
 use lib.ListN.{length, getD}
 use Rattle.grid.specs.Limits.{splinePointsMost}
-use Rattle.grid.specs.Rows.{firstKnot, lastKnot, knotOrderOk}
+use Rattle.grid.specs.Rows.{knotOrderOk}
 use Rattle.grid.specs.Check.{Passes}
 use Rattle.checked.specs.Checked.{Checked}
 use Rattle.checked.proofs.RisingLaws.{order-judged}
@@ -35,22 +35,16 @@ parameters-rise ss rising a (suc n) h =
     rw next (omega (arith, parameters-rise ss rising a n (omega arith), rising .rises (a + n) (omega arith)))
 
 module _ (inner : ℕ) (ss ts : List ℕ) (rising : Rising ss) (k : KnotsOf inner ss ts) where
-  starts : (a : ℕ) → a ≤ 3 → getD ts a 0 ≡ firstKnot ts
-  starts a h = k .first a (omega arith) ∙ sym (k .first 0 (omega arith))
-
-  ends : (a : ℕ) → inner * (length ss - 2) + 4 ≤ a → a < length ts → getD ts a 0 ≡ getD ss (length ss - 1) 0
-  ends a from to =
-      let r = a - (inner * (length ss - 2) + 4) in
-      let here : a ≡ inner * (length ss - 2) + 4 + r = omega arith in
-      ap (λ j. getD ts j 0) here ∙ k .last r (omega (arith, k .count))
-
-  last-is : lastKnot ts ≡ getD ss (length ss - 1) 0
-  last-is = ends (length ts - 1) (omega (arith, k .count)) (omega (arith, k .count))
+  -- the right end of the domain is the last parameter
+  end-is : getD ts (inner * (length ss - 2) + 4) 0 ≡ getD ss (length ss - 1) 0
+  end-is =
+      let here : inner * (length ss - 2) + 4 ≡ inner * (length ss - 2) + 4 + 0 = omega arith in
+      ap (λ j. getD ts j 0) here ∙ k .last 0 (omega arith)
 
   domain-is : getD ts 3 0 < getD ts (inner * (length ss - 2) + 4) 0
   domain-is =
       let end : length ss - 1 ≡ 1 + (length ss - 2) = omega (arith, rising .least) in
-      rw (k .first 3 (omega arith), ends (inner * (length ss - 2) + 4) (omega arith) (omega (arith, k .count)), end)
+      rw (k .first 3 (omega arith), end-is, end)
       (omega (arith, rising .rises 0 (omega (arith, rising .least)), parameters-rise ss rising 1 (length ss - 2) (omega (arith, rising .least))))
 
 module _ (inner : ℕ) (either : EitherNumber inner) (s : SplinePoints) (known : Joinable s) where
@@ -92,11 +86,15 @@ module _ (inner : ℕ) (either : EitherNumber inner) (s : SplinePoints) (known :
         };
         rising = order-judged ts .passing ordered .0;
         largest = order-judged ts .passing ordered .1;
-        firsts = starts inner ss ts rising knots;
-        lasts = λ a from to. ends inner ss ts rising knots a (omega (arith, us)) to ∙ sym (last-is inner ss ts rising knots);
         domain = rw us (domain-is inner ss ts rising knots);
-        inner = λ v first last.
-            omega (arith, either .1, repeats-inner inner ss rising xs dxs v (λ e. first (e ∙ sym (knots .first 0 (omega arith)))) (λ e. last (e ∙ sym (last-is inner ss ts rising knots))));
+        inner = λ v above below.
+            omega (
+              arith,
+              either .1,
+              repeats-inner inner ss rising xs dxs v
+                  (λ e. omega (arith, above, e, knots .first 3 (omega arith)))
+                  (λ e. omega (arith, rw us at below, e, end-is inner ss ts rising knots)),
+            );
         outer = λ v. repeats-outer inner ss rising xs dxs v (omega (arith, either .1));
         gridX = grid-each (joinedLists inner s .xs) (sym (joined-on-grid inner ss xs dxs (known .on-grid .0) some) ∙ known .pieces-on-grid .0);
         gridY = grid-each (joinedLists inner s .ys) (sym (joined-on-grid inner ss (s .ys) (s .dys) (known .on-grid .1) some) ∙ known .pieces-on-grid .1);

@@ -12,7 +12,7 @@ use Rattle.fractions.specs.Order.{Equals}
 use Rattle.splines.specs.Basis.{basis, sumOf, curveAt}
 use Rattle.exact.specs.ExactPoint.{exactCoordinate}
 use Rattle.exact.specs.ExactCurve.{exactAt}
-use Rattle.grid.specs.Rows.{degreeOk, pointCountOk, knotCountOk, risesFrom, knotOrderOk, allAre, endsOk, occurrences, repeatsMost, repeatsWithin, repeatsOk, onGrid, allOnGrid, rangeOk}
+use Rattle.grid.specs.Rows.{degreeOk, pointCountOk, knotCountOk, risesFrom, knotOrderOk, endsOk, occurrences, repeatsMost, repeatsWithin, repeatsOk, onGrid, allOnGrid, rangeOk}
 use Rattle.grid.specs.Check.{checkedThen}
 use Rattle.insertion.specs.Insertion.{knotsUpTo, insertionSpan, insertedKnots, weightedSum, weight, insertedPoint, entries, insertedPoints, wholeFrom, wholePoints, inserted}
 use Rattle.insertion.specs.Judged.{valueOk, placeOk, wholeOk, insertableThen, insertionNumber}
@@ -31,11 +31,11 @@ unfolding curveB curveB1 knotsUpTo insertionSpan insertedKnots weightedSum weigh
 inserted-is = refl
 
 inserts : insertionNumber 2 curveB 1 curveB1 ≡ 0
-unfolding curveB curveB1 enough strictlyInside divides degreeOk pointCountOk knotCountOk risesFrom knotOrderOk allAre endsOk occurrences repeatsMost repeatsWithin repeatsOk onGrid allOnGrid rangeOk checkedThen knotsUpTo insertionSpan insertedKnots weightedSum weight insertedPoint entries insertedPoints wholeFrom wholePoints valueOk placeOk wholeOk insertableThen insertionNumber
+unfolding curveB curveB1 enough strictlyInside divides degreeOk pointCountOk knotCountOk risesFrom knotOrderOk endsOk occurrences repeatsMost repeatsWithin repeatsOk onGrid allOnGrid rangeOk checkedThen knotsUpTo insertionSpan insertedKnots weightedSum weight insertedPoint entries insertedPoints wholeFrom wholePoints valueOk placeOk wholeOk insertableThen insertionNumber
 inserts = refl
 
 removes : Removes 2 1 curveB1 curveB
-unfolding curveB curveB1 withoutOne enough strictlyInside divides degreeOk pointCountOk knotCountOk risesFrom knotOrderOk allAre endsOk occurrences repeatsMost repeatsWithin repeatsOk onGrid allOnGrid rangeOk checkedThen knotsUpTo insertionSpan insertedKnots weightedSum weight insertedPoint entries insertedPoints wholeFrom wholePoints valueOk placeOk wholeOk insertableThen insertionNumber
+unfolding curveB curveB1 withoutOne enough strictlyInside divides degreeOk pointCountOk knotCountOk risesFrom knotOrderOk endsOk occurrences repeatsMost repeatsWithin repeatsOk onGrid allOnGrid rangeOk checkedThen knotsUpTo insertionSpan insertedKnots weightedSum weight insertedPoint entries insertedPoints wholeFrom wholePoints valueOk placeOk wholeOk insertableThen insertionNumber
 removes = record { fewer = refl; accepts = refl; gives = refl }
 
 -- at 1/2 B is (15/8, 7/2); so is B with 1 inserted, worked out on its own five points

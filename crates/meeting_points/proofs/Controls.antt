@@ -7,7 +7,7 @@ use lib.IntN.{pos, negsuc}
 use Rattle.signed.specs.Division.{divides}
 use Rattle.curve.specs.Lists.{Lists, lists}
 use Rattle.curve.specs.HandingOver.{enough}
-use Rattle.grid.specs.Rows.{degreeOk, pointCountOk, knotCountOk, risesFrom, knotOrderOk, allAre, endsOk, occurrences, repeatsMost, repeatsWithin, repeatsOk, onGrid, allOnGrid, rangeOk}
+use Rattle.grid.specs.Rows.{degreeOk, pointCountOk, knotCountOk, risesFrom, knotOrderOk, endsOk, occurrences, repeatsMost, repeatsWithin, repeatsOk, onGrid, allOnGrid, rangeOk}
 use Rattle.grid.specs.Check.{checkedThen}
 use Rattle.span.specs.Span.{strictlyInside}
 use Rattle.insertion.specs.Insertion.{knotsUpTo, insertionSpan, insertedKnots, weightedSum, weight, insertedPoint, entries, insertedPoints, wholeFrom, wholePoints}
@@ -46,7 +46,7 @@ joined-thrice = refl
 
 -- inserting 3 is accepted and gives the meeting point back: -6 = (3·(-10) + 6·(-4)) / 9, and -2 = (3·0 + 6·(-3)) / 9
 meeting-inserted : InsertsEach 3 (innerParameters params) withoutMeeting withMeeting
-unfolding withoutMeeting withMeeting innerParameters enough strictlyInside divides degreeOk pointCountOk knotCountOk risesFrom knotOrderOk allAre endsOk occurrences repeatsMost repeatsWithin repeatsOk onGrid allOnGrid rangeOk checkedThen knotsUpTo insertionSpan insertedKnots weightedSum weight insertedPoint entries insertedPoints wholeFrom wholePoints valueOk placeOk wholeOk insertableThen insertionNumber
+unfolding withoutMeeting withMeeting innerParameters enough strictlyInside divides degreeOk pointCountOk knotCountOk risesFrom knotOrderOk endsOk occurrences repeatsMost repeatsWithin repeatsOk onGrid allOnGrid rangeOk checkedThen knotsUpTo insertionSpan insertedKnots weightedSum weight insertedPoint entries insertedPoints wholeFrom wholePoints valueOk placeOk wholeOk insertableThen insertionNumber
 meeting-inserted = (refl, refl)
 
 -- of four parameters two are inner; of two none is

@@ -5,7 +5,7 @@ use mathlib.Core.Path.{_≡_, refl}
 use Prim.Native.Nat.{ℕ}
 use lib.IntN.{ℤ, pos, negsuc}
 use lib.Ieee.{fin, ofInt, add, mul, div}
-use Rattle.grid.specs.Rows.{degreeOk, pointCountOk, knotCountOk, risesFrom, knotOrderOk, allAre, endsOk, occurrences, repeatsMost, repeatsWithin, repeatsOk, onGrid, allOnGrid, rangeOk}
+use Rattle.grid.specs.Rows.{degreeOk, pointCountOk, knotCountOk, risesFrom, knotOrderOk, endsOk, occurrences, repeatsMost, repeatsWithin, repeatsOk, onGrid, allOnGrid, rangeOk}
 use Rattle.grid.specs.Check.{checkedThen}
 use Rattle.span.specs.Span.{spanOf, inDomain}
 use Rattle.triangle.specs.FloatTriangle.{entryOf}
@@ -25,16 +25,16 @@ ysA = pos 0 ∷ pos 8 ∷ pos 8 ∷ pos 0 ∷ []
 
 -- (1.25, 4.5), that is 5 · 2 ^ -2 and 9 · 2 ^ -1
 a-at-one : answerOf 3 knotsA xsA ysA 1 ≡ At (record { x = fin false 5 (negsuc 1); y = fin false 9 (negsuc 0) })
-unfolding parameterNumber checkedThen degreeOk pointCountOk knotCountOk risesFrom knotOrderOk allAre endsOk occurrences repeatsMost repeatsWithin repeatsOk onGrid allOnGrid rangeOk spanOf inDomain entryOf ofInt add mul div
+unfolding parameterNumber checkedThen degreeOk pointCountOk knotCountOk risesFrom knotOrderOk endsOk occurrences repeatsMost repeatsWithin repeatsOk onGrid allOnGrid rangeOk spanOf inDomain entryOf ofInt add mul div
 a-at-one = refl
 
 -- (8, 0)
 a-at-its-end : answerOf 3 knotsA xsA ysA 4 ≡ At (record { x = fin false 1 (pos 3); y = fin false 0 (pos 0) })
-unfolding parameterNumber checkedThen degreeOk pointCountOk knotCountOk risesFrom knotOrderOk allAre endsOk occurrences repeatsMost repeatsWithin repeatsOk onGrid allOnGrid rangeOk spanOf inDomain entryOf ofInt add mul div
+unfolding parameterNumber checkedThen degreeOk pointCountOk knotCountOk risesFrom knotOrderOk endsOk occurrences repeatsMost repeatsWithin repeatsOk onGrid allOnGrid rangeOk spanOf inDomain entryOf ofInt add mul div
 a-at-its-end = refl
 
 a-past-its-end : answerOf 3 knotsA xsA ysA 5 ≡ Refused 8
-unfolding parameterNumber checkedThen degreeOk pointCountOk knotCountOk risesFrom knotOrderOk allAre endsOk occurrences repeatsMost repeatsWithin repeatsOk onGrid allOnGrid rangeOk inDomain
+unfolding parameterNumber checkedThen degreeOk pointCountOk knotCountOk risesFrom knotOrderOk endsOk occurrences repeatsMost repeatsWithin repeatsOk onGrid allOnGrid rangeOk inDomain
 a-past-its-end = refl
 
 no-such-degree : answerOf 4 knotsA xsA ysA 5 ≡ Refused 1

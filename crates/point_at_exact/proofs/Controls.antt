@@ -8,7 +8,7 @@ use lib.Ieee.{ofInt, add, mul, div}
 use Rattle.fractions.specs.Fraction.{over, sum, product, negation, turned, reciprocal}
 use Rattle.fractions.specs.Order.{DistanceBelow}
 use Rattle.grid.specs.Check.{checkedThen, checkNumber, Passes}
-use Rattle.grid.specs.Rows.{degreeOk, pointCountOk, knotCountOk, knotOrderOk, risesFrom, endsOk, allAre, repeatsOk, repeatsWithin, repeatsMost, occurrences, rangeOk, allOnGrid, onGrid}
+use Rattle.grid.specs.Rows.{degreeOk, pointCountOk, knotCountOk, knotOrderOk, risesFrom, endsOk, repeatsOk, repeatsWithin, repeatsMost, occurrences, rangeOk, allOnGrid, onGrid}
 use Rattle.span.specs.Span.{spanOf, inDomain}
 use Rattle.splines.specs.Basis.{basis, sumOf, curveAt}
 use Rattle.exact.specs.ExactPoint.{exactCoordinate}
@@ -30,7 +30,7 @@ ysA = pos 0 ∷ pos 8 ∷ pos 8 ∷ pos 0 ∷ []
 
 -- it passes the check, 1 lies in its domain, and the computed point at 1 is near the exact one
 curve-a-passes : Passes 3 knotsA xsA ysA
-unfolding checkNumber checkedThen degreeOk pointCountOk knotCountOk knotOrderOk risesFrom endsOk allAre repeatsOk repeatsWithin repeatsMost occurrences rangeOk allOnGrid onGrid
+unfolding checkNumber checkedThen degreeOk pointCountOk knotCountOk knotOrderOk risesFrom endsOk repeatsOk repeatsWithin repeatsMost occurrences rangeOk allOnGrid onGrid
 curve-a-passes = refl
 
 one-in-domain-a : inDomain knotsA 3 3 1 1 ≡ true

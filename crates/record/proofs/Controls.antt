@@ -5,7 +5,7 @@ use lib.IntN.{pos}
 use lib.ListN.{replicate}
 use Rattle.curve.specs.Lists.{lists}
 use Rattle.curve.specs.HandingOver.{enough}
-use Rattle.grid.specs.Rows.{degreeOk, pointCountOk, knotCountOk, risesFrom, knotOrderOk, allAre, endsOk, occurrences, repeatsMost, repeatsWithin, repeatsOk, onGrid, allOnGrid, rangeOk}
+use Rattle.grid.specs.Rows.{degreeOk, pointCountOk, knotCountOk, risesFrom, knotOrderOk, endsOk, occurrences, repeatsMost, repeatsWithin, repeatsOk, onGrid, allOnGrid, rangeOk}
 use Rattle.grid.specs.Check.{checkedThen}
 use Rattle.format.specs.Format.{recordBytes}
 use Rattle.format.proofs.Controls.{curveA}
@@ -18,7 +18,7 @@ use Rattle.record.specs.declared.ReadAnswer.the-variants.{Curve, Broken,
 -- curve A has a record of 61 bytes; with the degree 4 it is no curve
 written-A : writeAnswer 3 curveA (replicate 61 0) ∷ writeAnswer 3 curveA (replicate 60 0) ∷ writeAnswer 4 curveA (replicate 60 0) ∷ []
     ≡ Written 61 ∷ NotWritten 15 ∷ NotWritten 1 ∷ []
-unfolding writeNumber checkedThen degreeOk pointCountOk knotCountOk risesFrom knotOrderOk allAre endsOk occurrences repeatsMost repeatsWithin repeatsOk onGrid allOnGrid rangeOk recordBytes curveA
+unfolding writeNumber checkedThen degreeOk pointCountOk knotCountOk risesFrom knotOrderOk endsOk occurrences repeatsMost repeatsWithin repeatsOk onGrid allOnGrid rangeOk recordBytes curveA
 written-A = refl
 
 -- eight knots and four points need as many places
@@ -27,7 +27,7 @@ read-A : recordNumber 3 curveA (lists (replicate 8 0) (replicate 4 (pos 0)) (rep
     ∷ recordNumber 3 curveA (lists (replicate 8 0) (replicate 4 (pos 0)) (replicate 3 (pos 0)))
     ∷ []
     ≡ 0 ∷ 15 ∷ 15 ∷ []
-unfolding recordNumber enough checkedThen degreeOk pointCountOk knotCountOk risesFrom knotOrderOk allAre endsOk occurrences repeatsMost repeatsWithin repeatsOk onGrid allOnGrid rangeOk curveA
+unfolding recordNumber enough checkedThen degreeOk pointCountOk knotCountOk risesFrom knotOrderOk endsOk occurrences repeatsMost repeatsWithin repeatsOk onGrid allOnGrid rangeOk curveA
 read-A = refl
 
 read-or-refused : readAnswer (judged 0) 3 4 ∷ readAnswer (judged 15) 3 4 ∷ readAnswer (broken 16 0) 3 4 ∷ [] ≡ Curve 3 4 ∷ Refused 15 ∷ Broken 16 0 ∷ []

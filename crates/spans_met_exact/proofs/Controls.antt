@@ -7,7 +7,7 @@ use Prim.Native.Nat.{ℕ, _*_}
 use lib.IntN.{ℤ, pos}
 use Rattle.refusal.specs.Numbers.{accepted}
 use Rattle.grid.specs.Check.{checkedThen}
-use Rattle.grid.specs.Rows.{degreeOk, pointCountOk, knotCountOk, knotOrderOk, risesFrom, endsOk, allAre, repeatsOk, repeatsWithin, repeatsMost, occurrences, rangeOk, allOnGrid, onGrid, axisOk, rectangleOk, radiusOk}
+use Rattle.grid.specs.Rows.{degreeOk, pointCountOk, knotCountOk, knotOrderOk, risesFrom, endsOk, repeatsOk, repeatsWithin, repeatsMost, occurrences, rangeOk, allOnGrid, onGrid, axisOk, rectangleOk, radiusOk}
 use Rattle.curve.specs.Lists.{lists}
 use Rattle.boxes.specs.declared.Rectangle.{Rectangle}
 use Rattle.boxes.specs.Widening.{widened}
@@ -37,7 +37,7 @@ clamp = record { «low_x» = pos 2; «high_x» = pos 3; «low_y» = pos 5; «hig
 
 -- the call refuses nothing
 clamp-accepted : listNumber 3 (lists knotsA xsA ysA) clamp 0 (spanLists (0 ∷ []) (0 ∷ [])) ≡ accepted
-unfolding numberWithPlaces checkedThen degreeOk pointCountOk knotCountOk knotOrderOk risesFrom endsOk allAre repeatsOk repeatsWithin repeatsMost occurrences rangeOk allOnGrid onGrid radiusOk axisOk rectangleOk spanCount keep upFrom
+unfolding numberWithPlaces checkedThen degreeOk pointCountOk knotCountOk knotOrderOk risesFrom endsOk repeatsOk repeatsWithin repeatsMost occurrences rangeOk allOnGrid onGrid radiusOk axisOk rectangleOk spanCount keep upFrom
 clamp-accepted = refl
 
 -- 3/2 lies in the domain
@@ -81,7 +81,7 @@ abbrev far : Rectangle
 far = record { «low_x» = pos 11; «high_x» = pos 20; «low_y» = pos 4; «high_y» = pos 9 }
 
 far-accepted : listNumber 1 (lists knotsLine xsLine ysLine) far 5 (spanLists (0 ∷ []) (0 ∷ [])) ≡ accepted
-unfolding numberWithPlaces checkedThen degreeOk pointCountOk knotCountOk knotOrderOk risesFrom endsOk allAre repeatsOk repeatsWithin repeatsMost occurrences rangeOk allOnGrid onGrid radiusOk axisOk rectangleOk spanCount keep upFrom
+unfolding numberWithPlaces checkedThen degreeOk pointCountOk knotCountOk knotOrderOk risesFrom endsOk repeatsOk repeatsWithin repeatsMost occurrences rangeOk allOnGrid onGrid radiusOk axisOk rectangleOk spanCount keep upFrom
 far-accepted = refl
 
 end-inside : inDomain knotsLine 1 1 4 1 ≡ true

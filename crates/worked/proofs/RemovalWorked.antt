@@ -11,7 +11,7 @@ use Rattle.curve.specs.Lists.{Lists}
 use Rattle.curve.specs.HandingOver.{enough}
 use Rattle.curve.proofs.HandingLaws.{ends-untouched, ends-done}
 use Rattle.span.specs.Span.{strictlyInside}
-use Rattle.grid.specs.Rows.{degreeOk, pointCountOk, knotCountOk, risesFrom, knotOrderOk, allAre, endsOk, occurrences, repeatsMost, repeatsWithin, repeatsOk, onGrid, allOnGrid, rangeOk}
+use Rattle.grid.specs.Rows.{degreeOk, pointCountOk, knotCountOk, risesFrom, knotOrderOk, endsOk, occurrences, repeatsMost, repeatsWithin, repeatsOk, onGrid, allOnGrid, rangeOk}
 use Rattle.grid.specs.Check.{checkedThen}
 use Rattle.signed.specs.Division.{divides}
 use Rattle.insertion.specs.Insertion.{knotsUpTo, insertionSpan, insertedKnots, insertedPoint, insertedPoints, entries, pointAt, weightedSum, weight, wholePoints, wholeFrom}
@@ -47,13 +47,13 @@ not-removable r =
     absurd (omega arith)
 
 pub b-keeps-its-knot : Holds (removedNot 2 curveB 2 13)
-unfolding removalNumber innerOk strictlyInside checkedThen degreeOk pointCountOk knotCountOk risesFrom knotOrderOk allAre endsOk occurrences repeatsMost repeatsWithin repeatsOk onGrid allOnGrid rangeOk
+unfolding removalNumber innerOk strictlyInside checkedThen degreeOk pointCountOk knotCountOk risesFrom knotOrderOk endsOk occurrences repeatsMost repeatsWithin repeatsOk onGrid allOnGrid rangeOk
 b-keeps-its-knot =
     ends-untouched (Outcome.RemovalComesTo 2 curveB 2 noPlaces) (λ (d : Lists). Removed (length (d .xs))) Refused noPlaces 13 curveB
     (Outcome.notRemovable refl not-removable refl) (λ e. omega arith)
 
 pub wider-b-loses-its-knot : Holds (removed 2 curveB-wider 2 curveB-parabola)
-unfolding removalNumber innerOk strictlyInside enough withoutOne checkedThen degreeOk pointCountOk knotCountOk risesFrom knotOrderOk allAre endsOk occurrences repeatsMost repeatsWithin repeatsOk onGrid allOnGrid rangeOk insertionNumber insertableThen valueOk placeOk wholeOk wholePoints wholeFrom divides weight weightedSum insertionSpan knotsUpTo insertedKnots insertedPoints insertedPoint entries
+unfolding removalNumber innerOk strictlyInside enough withoutOne checkedThen degreeOk pointCountOk knotCountOk risesFrom knotOrderOk endsOk occurrences repeatsMost repeatsWithin repeatsOk onGrid allOnGrid rangeOk insertionNumber insertableThen valueOk placeOk wholeOk wholePoints wholeFrom divides weight weightedSum insertionSpan knotsUpTo insertedKnots insertedPoints insertedPoint entries
 wider-b-loses-its-knot =
     ends-done (Outcome.RemovalComesTo 2 curveB-wider 2 (placesOf curveB-parabola)) (λ (d : Lists). Removed (length (d .xs))) Refused (placesOf curveB-parabola) 0 curveB-parabola
     (Outcome.removed refl (record { fewer = refl; accepts = refl; gives = refl }) refl) curveB-parabola refl refl

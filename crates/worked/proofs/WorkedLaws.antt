@@ -3,7 +3,7 @@ use mathlib.Core.Path.{refl}
 use lib.Count.{trailingZeros}
 use lib.Ieee.{span, climb, size, odd, units, round, sum, add, mul, div, ofInt}
 use Rattle.curve.specs.HandingOver.{enough}
-use Rattle.grid.specs.Rows.{degreeOk, pointCountOk, knotCountOk, risesFrom, knotOrderOk, allAre, endsOk, occurrences, repeatsMost, repeatsWithin, repeatsOk, onGrid, allOnGrid, rangeOk, axisOk, rectangleOk, radiusOk}
+use Rattle.grid.specs.Rows.{degreeOk, pointCountOk, knotCountOk, risesFrom, knotOrderOk, endsOk, occurrences, repeatsMost, repeatsWithin, repeatsOk, onGrid, allOnGrid, rangeOk, axisOk, rectangleOk, radiusOk}
 use Rattle.grid.specs.Check.{checkedThen}
 use Rattle.span.specs.Span.{spanOf, inDomain, strictlyInside}
 use Rattle.triangle.specs.FloatTriangle.{entryOf}
@@ -27,6 +27,6 @@ use Rattle.worked.specs.Case.{AllHold}
 use Rattle.worked.specs.Worked.{cases}
 
 pub worked-hold : AllHold cases
-unfolding trailingZeros span climb size odd units round sum add mul div ofInt enough checkedThen degreeOk pointCountOk knotCountOk risesFrom knotOrderOk allAre endsOk occurrences repeatsMost repeatsWithin repeatsOk onGrid allOnGrid rangeOk axisOk rectangleOk radiusOk widened spanOf inDomain strictlyInside entryOf parameterNumber someAtMost someAtLeast meetsOnAxis upFrom keep spanCount boxMeets spansMet lowKnots highKnots numberWithPlaces recordBytes writeNumber insertionNumber insertableThen valueOk placeOk wholeOk wholePoints wholeFrom divides weight weightedSum insertionSpan knotsUpTo insertedKnots insertedPoints insertedPoint entries joinableThen splinePointsOk splineCountOk countsAgree risesStrictlyFrom thirdWhole third pieceOf pieceAt piecesFrom pieces everyPiece pieceOnGrid joinedKnots knotsAfter joinedPoints pointsAfter
+unfolding trailingZeros span climb size odd units round sum add mul div ofInt enough checkedThen degreeOk pointCountOk knotCountOk risesFrom knotOrderOk endsOk occurrences repeatsMost repeatsWithin repeatsOk onGrid allOnGrid rangeOk axisOk rectangleOk radiusOk widened spanOf inDomain strictlyInside entryOf parameterNumber someAtMost someAtLeast meetsOnAxis upFrom keep spanCount boxMeets spansMet lowKnots highKnots numberWithPlaces recordBytes writeNumber insertionNumber insertableThen valueOk placeOk wholeOk wholePoints wholeFrom divides weight weightedSum insertionSpan knotsUpTo insertedKnots insertedPoints insertedPoint entries joinableThen splinePointsOk splineCountOk countsAgree risesStrictlyFrom thirdWhole third pieceOf pieceAt piecesFrom pieces everyPiece pieceOnGrid joinedKnots knotsAfter joinedPoints pointsAfter
 worked-hold =
     (refl, (refl, (refl, (refl, (refl, (refl, (refl, ((refl, refl), ((refl, refl), ((refl, refl), ((refl, refl), ((refl, refl), ((refl, refl), ((refl, refl), ((refl, refl), ((refl, refl), ((refl, refl), ((refl, refl), ((refl, refl), ((refl, refl), (record { answers = refl; hands = refl }, (record { answers = refl; hands = refl }, (record { answers = refl; hands = refl }, (record { answers = refl; hands = refl }, (record { answers = refl; hands = refl }, (record { answers = refl; hands = refl }, (b-keeps-its-knot, (wider-b-loses-its-knot, (double-knot-goes, (two-values-go, (one-pass-alone, (record { answers = refl; hands = refl }, (record { answers = refl; hands = refl }, (record { answers = refl; hands = refl }, (record { answers = refl; hands = refl }, (record { answers = refl; hands = refl }, (record { answers = refl; hands = refl }, (record { answers = refl; hands = refl }, tt))))))))))))))))))))))))))))))))))))))
