@@ -1,0 +1,5 @@
+-- Why the curve determines its polygon.
+pub mod ParameterLaws
+pub mod AgreeLaws
+pub mod PointLaws
+pub mod PolygonLaws

@@ -1,0 +1,1 @@
+// The curve determines its polygon. There is nothing here that runs.
