@@ -1,2 +1,3 @@
 -- Laws of clamping.
+pub mod BoundLaws
 mod Controls
