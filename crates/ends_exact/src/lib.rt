@@ -1,0 +1,1 @@
+// Why clamping and unclamping keep the exact curve. There is nothing here that runs.
