@@ -70,8 +70,8 @@ module _ (m : ℕ) (c d : Lists) (i k r s : ℕ) (w : Window m c d i k r) (run :
       elim (decLe (i + s + 1) (length (c .xs))) [
         | yes h ↦ h
         | no h ↦
-            let last = facts .lasts (i + s) (omega arith) (omega (arith, run .inside)) in
-            let next = facts .lasts (i + s + 1) (omega arith) (run .inside) in
+            let last = w .clamped .lasts (i + s) (omega arith) (omega (arith, run .inside)) in
+            let next = w .clamped .lasts (i + s + 1) (omega arith) (run .inside) in
             absurd (omega (arith, run .ends, run .same s (run .least) (omega arith), last, next))
       ]
 

@@ -2,7 +2,7 @@
 use mathlib.Core.Bool.{true}
 use mathlib.Core.List.{List}
 use mathlib.Core.Path.{_≡_, sym, ap, _∙_}
-use Prim.Native.Nat.{ℕ, zero, suc, _+_, _-_, _*_, _≤_, _<_}
+use Prim.Native.Nat.{ℕ, zero, suc, _+_, _*_, _≤_, _<_}
 use native.Mathlib.Nat.{suc-mul}
 use native.Mathlib.Omega.{arith}
 use lib.IntN.{ℤ, pos}
@@ -42,6 +42,7 @@ module _ (m : ℕ) (c d : Lists) (i k r s : ℕ) (w : Window m c d i k r) (run :
       record {
         passes = still-passes few place whole;
         original = w .original;
+        clamped = w .clamped;
         points = omega (arith, insertedPoints-length m (d .knots) (d .xs) v, w .points);
         least = w .least;
         inside = w .inside;
@@ -58,6 +59,7 @@ module _ (m : ℕ) (c d : Lists) (i k r s : ℕ) (w : Window m c d i k r) (run :
       record {
         passes = w .passes;
         original = w .original;
+        clamped = w .clamped;
         points = omega (arith, more, w .points);
         least = omega (arith, w .least);
         inside = omega (arith, run-inside m c d i k r s w run);

@@ -1,4 +1,4 @@
--- A curve c that is cut from the left as far as the span i, and what it is then, the curve d, round that span. The span's low knot, like every inner knot to its left,
+-- A curve c with clamped ends that is cut from the left as far as the span i, and what it is then, the curve d, round that span. The span's low knot, like every inner knot to its left,
 -- stands m times: so it is the last of the first k * m + m + 1 knots of d, where k pieces lie to its left. Its high knot was inserted r times.
 use mathlib.Core.List.{List}
 use mathlib.Core.Path.{_≡_}
@@ -7,12 +7,14 @@ use lib.IntN.{ℤ, pos}
 use lib.ListN.{length, getD}
 use Rattle.curve.specs.Lists.{Lists}
 use Rattle.grid.specs.Check.{Passes}
+use Rattle.checked.specs.Checked.{Clamped}
 use Rattle.insertion.specs.Insertion.{pointAt}
 
 -- the knots: the low knot m times, the high knot r times, and then c's own behind the low knot
 pub record Window (m : ℕ) (c d : Lists) (i k r : ℕ) : Type 0 where
   pub passes : Passes m (d .knots) (d .xs) (d .ys)
   pub original : Passes m (c .knots) (c .xs) (c .ys)
+  pub clamped : Clamped m (c .knots) (length (c .xs))
   pub points : length (d .xs) + i ≡ length (c .xs) + (k * m + m) + r
   pub least : m ≤ i
   pub inside : i < length (c .xs)

@@ -1,13 +1,13 @@
 -- Equal knots behind one another, counted from the left.
 use mathlib.Core.List.{List}
 use mathlib.Core.Path.{_≡_, refl, ap, _∙_}
-use Prim.Native.Nat.{ℕ, _+_, _-_, _≤_, _<_}
+use Prim.Native.Nat.{ℕ, _+_, _≤_, _<_}
 use native.Mathlib.Decide.{decLe}
 use native.Mathlib.Omega.{arith}
 use lib.ListN.{length, getD}
 use Rattle.curve.specs.Lists.{NeverFall}
-use Rattle.grid.specs.Rows.{lastKnot}
 use Rattle.cut_window.specs.Window.{Run}
+use Rattle.pieces.specs.Walk.{LargerBehind}
 
 -- s knots so far, which are not the last
 pub record SoFar (ts : List ℕ) (i s : ℕ) : Type 0 where
@@ -15,14 +15,13 @@ pub record SoFar (ts : List ℕ) (i s : ℕ) : Type 0 where
   pub inside : i + s + 1 < length ts
   pub same : (x : ℕ) → 1 ≤ x → x ≤ s → getD ts (i + x) 0 ≡ getD ts (i + 1) 0
 
-module _ (ts : List ℕ) (i : ℕ) (below : getD ts (i + 1) 0 < lastKnot ts) where
+module _ (ts : List ℕ) (i : ℕ) (rises : NeverFall ts) (above : LargerBehind ts i) where
   -- an entry of that value has one behind it
   more-behind : (j : ℕ) → j < length ts → getD ts j 0 ≡ getD ts (i + 1) 0 → j + 1 < length ts
   more-behind j inside here =
-      elim (decLe (length ts) (j + 1)) [
-        | no h ↦ omega arith
-        | yes h ↦ (let end : length ts - 1 ≡ j = omega arith in
-            absurd (omega (arith, below, here, ap (λ a. getD ts a 0) end)))
+      elim (decLe (above .place) j) [
+        | no h ↦ omega (arith, above .inside)
+        | yes h ↦ absurd (omega (arith, rises (above .place) j h inside, here, above .larger))
       ]
 
   pub run-begins : i + 1 < length ts → SoFar ts i 1
@@ -49,8 +48,8 @@ module _ (ts : List ℕ) (i : ℕ) (below : getD ts (i + 1) 0 < lastKnot ts) whe
             | no h ↦ (let here : i + x ≡ i + s + 1 = omega arith in ap (λ j. getD ts j 0) here ∙ next)
           ]
 
-  pub run-ends : (s : ℕ) → NeverFall ts → SoFar ts i s → (getD ts (i + s + 1) 0 ≡ getD ts (i + 1) 0 → ⊥) → Run ts i s
-  run-ends s rises so other =
+  pub run-ends : (s : ℕ) → SoFar ts i s → (getD ts (i + s + 1) 0 ≡ getD ts (i + 1) 0 → ⊥) → Run ts i s
+  run-ends s so other =
       record {
         least = so .least;
         inside = so .inside;

@@ -8,6 +8,7 @@ use lib.IntN.{ℤ}
 use lib.ListN.{length, getD}
 use Rattle.curve.specs.Lists.{Lists}
 use Rattle.grid.specs.Check.{Passes}
+use Rattle.checked.specs.Checked.{Clamped}
 use Rattle.checked.proofs.CheckedLaws.{checked-of-passes}
 use Rattle.insertion.specs.Insertion.{pointAt}
 use Rattle.span_walk.specs.SpansMet.{upFrom, keep, nonEmpty, highKnots}
@@ -34,19 +35,20 @@ module _ (m : ℕ) (c : Lists) where
   unfolding upFrom keep
   none-counted = let none : m - m ≡ 0 = omega arith in ap (λ n. length (keep (nonEmpty (c .knots)) (upFrom m n))) none
 
-  module _ (passes : Passes m (c .knots) (c .xs) (c .ys)) where
+  module _ (passes : Passes m (c .knots) (c .xs) (c .ys)) (clamped : Clamped m (c .knots) (length (c .xs))) where
     first-window : Window m c c m 0 0
     first-window =
         let f = checked-of-passes m (c .knots) (c .xs) (c .ys) passes in
         record {
           passes = passes;
           original = passes;
+          clamped = clamped;
           points = omega (arith, zero-mul m);
           least = omega arith;
           inside = omega (arith, f .sizes .enough);
-          wide = first-wide m (c .knots) (c .xs) (c .ys) passes;
+          wide = first-wide m (c .knots) (c .xs) (c .ys) passes clamped;
           low = λ a least most. (let here : 0 * m + a ≡ a = omega (arith, zero-mul m) in
-              ap (λ j. getD (c .knots) j 0) here ∙ f .firsts a most ∙ sym (f .firsts m (omega arith)));
+              ap (λ j. getD (c .knots) j 0) here ∙ clamped .firsts a most);
           again = λ a least most. absurd (omega arith);
           far = λ x least. (let here : 0 * m + m + 0 + x ≡ m + x = omega (arith, zero-mul m) in ap (λ j. getD (c .knots) j 0) here);
         }

@@ -110,7 +110,7 @@ module _ (m : ℕ) (c : Lists) (walk : Walk) (at : AtSpan m c walk) where
     old = sizes-of-passes m (c .knots) (c .xs) (c .ys) (at .window .original)
 
     pub run-few : s ≤ m
-    run-few = run-most m (c .knots) (c .xs) (c .ys) (at .window .original) i s (at .window .least) (at .window .wide) run
+    run-few = run-most m (c .knots) (c .xs) (c .ys) (at .window .original) (at .window .clamped) i s (at .window .least) (at .window .wide) run
 
     pub run-within : i + 1 + s ≤ length (c .xs)
     run-within = omega (arith, run-inside m c d i k 0 s (at .window) run)
@@ -143,7 +143,7 @@ module _ (m : ℕ) (c : Lists) (walk : Walk) (at : AtSpan m c walk) where
     cuts-next : cutsUpTo m c (i + s) ≡ cutsUpTo m c i ++ replicate (m - s) v
     cuts-next =
         cuts-turn m (c .knots) i s (at .window .least) (at .window .wide) run
-        (run-occurs m (c .knots) (c .xs) (c .ys) (at .window .original) i s (at .window .least) (at .window .wide) run)
+        (run-occurs m (c .knots) (c .xs) (c .ys) (at .window .original) (at .window .clamped) i s (at .window .least) (at .window .wide) run)
 
     cut-next : cutUpTo m c (i + s) ≡ insertedEach m (replicate (m - s) v) d
     cut-next = ap (λ l. insertedEach m l c) cuts-next ∙ inserted-append m (cutsUpTo m c i) (replicate (m - s) v) c

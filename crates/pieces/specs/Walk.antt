@@ -3,7 +3,7 @@ use mathlib.Core.List.{List}
 use mathlib.Core.Path.{_≡_}
 use Prim.Native.Nat.{ℕ, suc, _+_, _-_, _<_}
 use lib.IntN.{ℤ}
-use lib.ListN.{length}
+use lib.ListN.{length, getD}
 use Rattle.refusal.specs.Numbers.{accepted}
 use Rattle.curve.specs.Lists.{Lists}
 use Rattle.span_walk.specs.SpansMet.{upFrom, keep, nonEmpty}
@@ -16,6 +16,12 @@ use Rattle.cut_rows.specs.Row.{Pushed}
 use Rattle.pieces.specs.Loaded.{Loaded}
 use Rattle.pieces.specs.declared.Walk.{Walk}
 use Rattle.pieces.specs.declared.Handed.{Handed}
+
+-- some knot is larger than the one behind the index i
+pub record LargerBehind (ts : List ℕ) (i : ℕ) : Type 0 where
+  pub place : ℕ
+  pub inside : place < length ts
+  pub larger : getD ts (i + 1) 0 < getD ts place 0
 
 -- the values to insert left of where the span i ends, in their order; and the curve with them
 abbrev pub cutsUpTo : ℕ → Lists → ℕ → List ℕ

@@ -12,6 +12,7 @@ ghost use lib.IntN.{ℤ};
 ghost use lib.ListN.{length};
 ghost use Rattle.curve.specs.Lists.{lists};
 ghost use Rattle.grid.specs.Check.{Passes};
+ghost use Rattle.checked.specs.Checked.{Clamped};
 ghost use Rattle.pieces.specs.Walk.{AtSpan, Hands};
 
 // Where a walk stands: the number of pieces behind it, the index of the span's low knot, the points of the whole curve so far, and those that carry the span.
@@ -33,7 +34,7 @@ pub struct Handed {
 // The walk at the first span.
 pub fn start(m: usize, xs: &[i32], ys: &[i32]) -> Walk
     requires { ⌜ ((ts : List ℕ) × Passes m ts (now xs) (now ys)) ⌝ }
-    ensures answer { λ r. ⌜ ((ts : List ℕ) → Passes m ts (now (xs .entry)) (now (ys .entry)) → AtSpan m (lists ts (now (xs .entry)) (now (ys .entry))) r) ⌝ }
+    ensures answer { λ r. ⌜ ((ts : List ℕ) → Passes m ts (now (xs .entry)) (now (ys .entry)) → Clamped m ts (length (now (xs .entry))) → AtSpan m (lists ts (now (xs .entry)) (now (ys .entry))) r) ⌝ }
     ensures first { λ r. ⌜ r .index ≡ 0 ⌝ }
 {
     let width = m + 1;

@@ -28,7 +28,7 @@ loaded-requires-2 c κs =
 returns : tie.Need-returns
 returns c =
     let a = c .before .before .args in (
-      λ ts passes. starts (a .m) (lists ts (a .xs .now) (a .ys .now)) passes (c .before .loaded .result) (c .loaded2 .result) (c .before .loaded .ensures) (c .loaded2 .ensures),
+      λ ts passes clamped. starts (a .m) (lists ts (a .xs .now) (a .ys .now)) passes clamped (c .before .loaded .result) (c .loaded2 .result) (c .before .loaded .ensures) (c .loaded2 .ensures),
       refl,
     )
 

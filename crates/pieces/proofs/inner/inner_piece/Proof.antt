@@ -1,11 +1,12 @@
 -- The high knot is not the right end, so it stands a run of times; its insertions are those of the whole curve, and the rows are then the piece and the next span's.
 use Prim.Native.Nat.{_+_}
 use native.Mathlib.Omega.{arith}
+use lib.ListN.{length}
 use Rattle.curve.specs.Lists.{lists}
 use Rattle.grid.proofs.SizeLaws.{sizes-of-passes}
 use Rattle.checked.proofs.CheckedLaws.{checked-of-passes}
 use Rattle.pieces.specs.Walk.{cutUpTo}
-use Rattle.pieces.proofs.ValueLaws.{below-last}
+use Rattle.pieces.proofs.ValueLaws.{below-end}
 use Rattle.pieces.proofs.WalkLaws.{bounds, run-few, run-within, opened-stands, inner-hands}
 use borrow.Author.Needs.{needs}
 use Rattle.pieces.proofs.inner.inner_piece.Statement.{statement}
@@ -15,10 +16,15 @@ run-behind-requires : tie.Need-run-behind-requires
 run-behind-requires c κs =
     let a = c .before .args in
     let at = c .before .pre .0 in
-    let z = bounds (a .m) (lists (a .knots .now) (a .xs .now) (a .ys .now)) (a .walk) at in (
-      checked-of-passes (a .m) (a .knots .now) (a .xs .now) (a .ys .now) (at .window .original) .rising,
+    let z = bounds (a .m) (lists (a .knots .now) (a .xs .now) (a .ys .now)) (a .walk) at in
+    let known = checked-of-passes (a .m) (a .knots .now) (a .xs .now) (a .ys .now) (at .window .original) in (
+      known .rising,
       z .knots,
-      below-last (a .m) (a .knots .now) (a .xs .now) (a .ys .now) (at .window .original) (a .walk .span + 1) (c .before .pre .1),
+      record {
+        place = length (a .xs .now);
+        inside = omega (arith, known .sizes .knots);
+        larger = below-end (a .m) (a .knots .now) (a .xs .now) (a .ys .now) (at .window .original) (at .window .clamped) (a .walk .span + 1) (c .before .pre .1);
+      },
     )
 
 opened-requires : tie.Need-opened-requires

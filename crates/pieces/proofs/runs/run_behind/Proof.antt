@@ -1,4 +1,4 @@
--- The loop's invariant: the first s knots behind are the same; the right end is larger, so the loop stops before it.
+-- The loop's invariant: the first s knots behind are the same; some knot is larger, so the loop stops before it.
 use Prim.Native.Nat.{_-_}
 use borrow.Author.Needs.{needs}
 use lib.ListN.{length}
@@ -22,7 +22,7 @@ shared-slice-read-v : tie.Need-shared-slice-read-v Inv-loop μ-loop
 shared-slice-read-v c = search needs
 
 loop-holds : tie.Need-loop-holds Inv-loop μ-loop
-loop-holds c = run-begins (c .before .args .knots .now) (c .before .args .i) (c .before .pre .2) (c .before .pre .1)
+loop-holds c = run-begins (c .before .args .knots .now) (c .before .args .i) (c .before .pre .0) (c .before .pre .2) (c .before .pre .1)
 
 add-if1 : tie.Need-add-if1 Inv-loop μ-loop
 add-if1 c = search needs
@@ -45,12 +45,12 @@ loop-less c = search needs
 loop-again : tie.Need-loop-again Inv-loop μ-loop
 loop-again c =
     let a = c .before .before .before .before .args in
-    run-goes (a .knots .now) (a .i) (c .before .before .before .before .pre .2) (c .before .before .loop .s) (c .before .before .loop .inv) (c .if1 .taken)
+    run-goes (a .knots .now) (a .i) (c .before .before .before .before .pre .0) (c .before .before .before .before .pre .2) (c .before .before .loop .s) (c .before .before .loop .inv) (c .if1 .taken)
 
 returns : tie.Need-returns Inv-loop μ-loop
 returns c =
     let a = c .before .before .before .before .args in
-    run-ends (a .knots .now) (a .i) (c .before .before .before .before .pre .2) (c .before .before .loop .s) (c .before .before .before .before .pre .0) (c .before .before .loop .inv) (c .if1 .left)
+    run-ends (a .knots .now) (a .i) (c .before .before .before .before .pre .0) (c .before .before .before .before .pre .2) (c .before .before .loop .s) (c .before .before .loop .inv) (c .if1 .left)
 
 pub run-behind-spec : {M : Type 1} → statement M
 run-behind-spec =
