@@ -1,5 +1,5 @@
 -- The values to insert are counted: `counted-cuts`. An inner knot is one of the inner values, and nothing else is, since the last span ends the
--- domain: `last-step`.
+-- domain and is not empty: `last-step`.
 use mathlib.Core.Bool.{true≢false}
 use mathlib.Core.List.{List}
 use mathlib.Core.Path.{_≡_, sym, ap, _∙_}
@@ -12,9 +12,9 @@ use Rattle.curve.specs.Lists.{Lists}
 use Rattle.grid.specs.Rows.{knotOrderOk, occurrences}
 use Rattle.grid.specs.Check.{Passes}
 use Rattle.grid.proofs.CheckLaws.{passes-tests}
-use Rattle.grid.proofs.InnerLaws.{repeats-again}
+use Rattle.grid.proofs.InnerLaws.{again-far}
 use Rattle.grid.proofs.RepeatLaws.{rises-between}
-use Rattle.checked.specs.Checked.{Checked}
+use Rattle.checked.specs.Checked.{Checked, Clamped}
 use Rattle.checked.proofs.CheckedLaws.{checked-of-passes}
 use Rattle.checked.proofs.OccurrenceLaws.{stands-at, occurs-at}
 use Rattle.cutting.specs.Cutting.{innerValues, cuts}
@@ -22,7 +22,7 @@ use Rattle.cut_whole.specs.Sentences.{InnerKnot, CountedCuts}
 use Rattle.cut_whole.proofs.LackingLaws.{lacking-occurrences, lacking-rises}
 use Rattle.cut_whole.proofs.EndsLaws.{ends-rise, ends-once, ends-only, ends-has}
 
-module _ (m : ℕ) (c : Lists) (passes : Passes m (c .knots) (c .xs) (c .ys)) where
+module _ (m : ℕ) (c : Lists) (passes : Passes m (c .knots) (c .xs) (c .ys)) (clamped : Clamped m (c .knots) (length (c .xs))) where
   abbrev ts : List ℕ
   ts = c .knots
 
@@ -40,19 +40,17 @@ module _ (m : ℕ) (c : Lists) (passes : Passes m (c .knots) (c .xs) (c .ys)) wh
   unfolding knotOrderOk
   last-step =
       let n = length (c .xs) - 1 in
-      let back : n + m - m ≡ n = omega arith in
+      let back : n + m + 1 - (m + 1) ≡ n = omega arith in
       let sizes : length ts ≡ length (c .xs) + m + 1 = known .sizes .knots in
       let enough = known .sizes .enough in
-      let degree = known .sizes .degree-least in
       let test = passes-tests m (c .knots) (c .xs) (c .ys) passes in
       elim (decLe (getD ts (length (c .xs)) 0) (getD ts n 0)) [
         | no below ↦ omega arith
         | yes above ↦
-            let end = known .lasts (length (c .xs)) (omega arith) (omega arith) in
-            let far = known .lasts (n + m) (omega arith) (omega arith) in
+            let far = clamped .lasts (n + m + 1) (omega arith) (omega arith) in
             let order = known .rising n (length (c .xs)) (omega arith) (omega arith) in
-            let same : getD ts (n + m) 0 ≡ getD ts (n + m - m) 0 = rw back (omega arith) in
-            absurd (true≢false (sym (test .repeats) ∙ repeats-again m ts (test .order) (n + m) (omega arith) (omega arith) same))
+            let same : getD ts (n + m + 1) 0 ≡ getD ts (n + m + 1 - (m + 1)) 0 = rw back (omega arith) in
+            absurd (true≢false (sym (test .repeats) ∙ again-far m ts (test .order) (n + m + 1) (omega arith) (omega arith) same))
       ]
 
   inner-once : (v : ℕ) → InnerKnot m c v → occurrences v (innerValues m c) ≡ 1

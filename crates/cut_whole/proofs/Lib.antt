@@ -1,5 +1,6 @@
 -- Laws of cutting a curve, and curves worked by hand.
 pub mod EachLaws
+pub mod ClampedLaws
 mod JudgedLaws
 mod SpanLaws
 mod LackingLaws

@@ -12,6 +12,7 @@ use lib.ListN.{length}
 use Rattle.curve.specs.Lists.{Lists}
 use Rattle.grid.specs.Rows.{occurrences}
 use Rattle.grid.specs.Check.{Passes}
+use Rattle.checked.specs.Checked.{Clamped}
 use Rattle.grid.proofs.RepeatLaws.{occurrences-is, occurrences-not}
 use Rattle.insertion.specs.Insertion.{inserted}
 use Rattle.insertion.specs.Judged.{valueOk}
@@ -40,7 +41,7 @@ refit : {m : ℕ} {vs : List ℕ} {c : Lists} {P Q : Lists → ℕ → Type 0} (
     → (P (insertedEach m (f .before) c) (f .value) → Q (insertedEach m (f .before) c) (f .value)) → FirstFailing m vs c Q
 refit f says = record { before = f .before; value = f .value; later = f .later; parted = f .parted; accepts = f .accepts; fails = says (f .fails) }
 
-module _ (m : ℕ) (c : Lists) (passes : Passes m (c .knots) (c .xs) (c .ys)) where
+module _ (m : ℕ) (c : Lists) (passes : Passes m (c .knots) (c .xs) (c .ys)) (clamped : Clamped m (c .knots) (length (c .xs))) where
   module _ (before : List ℕ) (v : ℕ) (later : List ℕ) (parted : cuts m c ≡ before ++ (v ∷ later)) (accepts : AcceptsEach m before c) where
     abbrev d : Lists
     d = insertedEach m before c
@@ -51,8 +52,8 @@ module _ (m : ℕ) (c : Lists) (passes : Passes m (c .knots) (c .xs) (c .ys)) wh
         let kept = each-keeps m before c passes accepts in
         let parts : occurrences v (cuts m c) ≡ occurrences v before + suc (occurrences v later) =
         ap (occurrences v) parted ∙ occurrences-append v before (v ∷ later) ∙ ap (λ n. occurrences v before + n) (occurrences-is v v later refl) in
-        let inner = inner-of-cut m c passes v (omega arith) in
-        let lack = counted-cuts m c passes .inner v inner in
+        let inner = inner-of-cut m c passes clamped v (omega arith) in
+        let lack = counted-cuts m c passes clamped .inner v inner in
         let stands = each-occurrences m before c v in
         value-seldom m (d .knots) (d .xs) v
         (inside-of-ends (d .knots) m (length (d .xs)) v (rw (kept .start) (inner .above)) (rw (kept .stop) (inner .below)))

@@ -13,22 +13,22 @@ pub cut-passes : CutPasses
 cut-passes m c h = record { passes = passes-of-cut m c h; accepts = accepts-of-cut m c h; cut-passes = cut-keeps m c h .passes }
 
 pub cuts-counted : CutsCounted
-cuts-counted m c passes = counted-cuts m c passes
+cuts-counted m c passes clamped = counted-cuts m c passes clamped
 
 pub cut-full : CutFull
-cut-full m c h = fully-cut m c (passes-of-cut m c h)
+cut-full m c h clamped = fully-cut m c (passes-of-cut m c h) clamped
 
 pub cut-sizes : CutSizes
-cut-sizes m c h = cut-sizes-of m c h
+cut-sizes m c h clamped = cut-sizes-of m c h clamped
 
 pub cut-knots : CutKnots
-cut-knots m c h = cut-knots-of m c h
+cut-knots m c h clamped = cut-knots-of m c h clamped
 
 pub spans-follow : SpansFollow
 spans-follow m c passes = spans-in-order m c (checked-of-passes m (c .knots) (c .xs) (c .ys) passes)
 
 pub piece-knots : PieceKnots
-piece-knots m c h = piece-knots-of m c h
+piece-knots m c h clamped = piece-knots-of m c h clamped
 
 pub cut-number-is : CutNumberIs
 cut-number-is m c = (number-of-cut m c, cut-refused m c)

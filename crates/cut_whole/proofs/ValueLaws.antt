@@ -15,7 +15,7 @@ use Rattle.curve.specs.Lists.{Lists}
 use Rattle.grid.specs.Rows.{knotOrderOk, risesFrom, occurrences}
 use Rattle.grid.proofs.CheckLaws.{passes-tests}
 use Rattle.grid.proofs.RepeatLaws.{rises-drop}
-use Rattle.checked.specs.Checked.{Checked}
+use Rattle.checked.specs.Checked.{Checked, Clamped}
 use Rattle.checked.proofs.CheckedLaws.{checked-of-passes}
 use Rattle.checked.proofs.OccurrenceLaws.{stands-at, occurs-at}
 use Rattle.insertion.specs.Insertion.{knotsUpTo}
@@ -34,7 +34,7 @@ abbrev pub valueAt : ℕ → Lists → ℕ → ℕ
 valueAt m c zero = getD (c .knots) m 0
 valueAt m c (suc k) = highAt m c k
 
-module _ (m : ℕ) (c : Lists) (h : cutNumber m c ≡ accepted) where
+module _ (m : ℕ) (c : Lists) (h : cutNumber m c ≡ accepted) (clamped : Clamped m (c .knots) (length (c .xs))) where
   abbrev ts : List ℕ
   ts = c .knots
 
@@ -53,6 +53,9 @@ module _ (m : ℕ) (c : Lists) (h : cutNumber m c ≡ accepted) where
   pub new : Checked m (cut m c .knots) (cut m c .xs) (cut m c .ys)
   new = checked-of-passes m (cut m c .knots) (cut m c .xs) (cut m c .ys) (kept .passes)
 
+  pub ends : Clamped m (cut m c .knots) (length (cut m c .xs))
+  ends = kept .clamped clamped
+
   pub order : SpansInOrder m c
   order = spans-in-order m c old
 
@@ -70,7 +73,7 @@ module _ (m : ℕ) (c : Lists) (h : cutNumber m c ≡ accepted) where
   -- no knot lies between two neighbours
   pub none-between : (k : ℕ) → k < count → (j : ℕ) → j < length ks → (getD ks j 0 ≤ valueAt m c k) ⊎ (valueAt m c (suc k) ≤ getD ks j 0)
   none-between k l j i =
-      let s = stands-at (getD ks j 0) ts (old-value m c (passes-of-cut m c h) (getD ks j 0) (occurs-at (getD ks j 0) ks j i refl)) in
+      let s = stands-at (getD ks j 0) ts (old-value m c (passes-of-cut m c h) clamped (getD ks j 0) (occurs-at (getD ks j 0) ks j i refl)) in
       let inside : spanAt m c k < length (c .xs) = span-inside m c old k l in
       elim (decLe (s .0) (spanAt m c k)) [
         | yes before ↦ inl (omega (arith, s .2, low-is k l, old .rising (s .0) (spanAt m c k) before (omega (arith, old .sizes .knots))))
@@ -93,12 +96,12 @@ module _ (m : ℕ) (c : Lists) (h : cutNumber m c ≡ accepted) where
       }
 
   pub inner-stands : (k : ℕ) → suc k < count → occurrences (valueAt m c (suc k)) ks ≡ m
-  inner-stands k l = fully-cut m c (passes-of-cut m c h) .inner (valueAt m c (suc k)) (inner-value k l)
+  inner-stands k l = fully-cut m c (passes-of-cut m c h) clamped .inner (valueAt m c (suc k)) (inner-value k l)
 
   -- the left end stands m + 1 times
   first-up-to : knotsUpTo (valueAt m c 0) ks ≡ m + 1
   first-up-to =
-      let same : getD ks 0 0 ≡ valueAt m c 0 = sym (new .firsts m (omega arith)) ∙ kept .start in
+      let same : getD ks 0 0 ≡ valueAt m c 0 = ends .firsts 0 (omega arith) ∙ kept .start in
       let many : length ks ≡ length (cut m c .xs) + m + 1 = new .sizes .knots in
       let stand = upTo-first (valueAt m c 0) (getD ks 0 0) ks (rises-drop 0 ks 0 rises (omega arith)) (omega arith) in
       let most = new .outer (valueAt m c 0) in
@@ -130,7 +133,7 @@ module _ (m : ℕ) (c : Lists) (h : cutNumber m c ≡ accepted) where
         | no few ↦
             let above = knotsUpTo-above (valueAt m c (suc last)) ks (omega arith) in
             let up = new .rising (knotsUpTo (valueAt m c (suc last)) ks) (length ks - 1) (omega arith) (omega arith) in
-            let end = new .lasts (length (cut m c .xs)) (omega arith) (omega arith) in
+            let end = ends .lasts (length ks - 1) (omega arith) (omega arith) in
             absurd (omega (arith, last-is))
       ]
 

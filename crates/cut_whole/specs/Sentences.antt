@@ -1,5 +1,6 @@
 -- Cutting a curve at its inner knots, told over whole curves (heading "Out to SVG"): what the cut curve is, what its pieces' knots are, and when
--- cutting is refused. `m` is the degree, `c` the curve.
+-- cutting is refused. `m` is the degree, `c` the curve. Where the ends of the domain come in, the curve's ends are clamped: its first m + 1 knots
+-- are equal, and its last m + 1.
 use mathlib.Core.List.{List, _∷_, _++_}
 use mathlib.Core.Logic.{_⊎_, _↔_}
 use mathlib.Core.Path.{_≡_}
@@ -10,6 +11,7 @@ use Rattle.curve.specs.Lists.{Lists, NeverFall}
 use Rattle.grid.specs.Limits.{pointsMost}
 use Rattle.grid.specs.Rows.{occurrences}
 use Rattle.grid.specs.Check.{Passes, checkNumber}
+use Rattle.checked.specs.Checked.{Clamped}
 use Rattle.insertion.specs.Insertion.{inserted}
 use Rattle.insertion.specs.Judged.{insertionNumber}
 use Rattle.insertion.specs.Sentences.{Full, NotWhole}
@@ -48,7 +50,7 @@ pub record CountedCuts (m : ℕ) (c : Lists) : Type 0 where
   pub rising : NeverFall (cuts m c)
 
 abbrev pub CutsCounted : Type 0
-CutsCounted = (m : ℕ) (c : Lists) → Passes m (c .knots) (c .xs) (c .ys) → CountedCuts m c
+CutsCounted = (m : ℕ) (c : Lists) → Passes m (c .knots) (c .xs) (c .ys) → Clamped m (c .knots) (length (c .xs)) → CountedCuts m c
 
 -- in the cut curve every inner knot stands m times, and any other value as often as before
 pub record FullyCut (m : ℕ) (c : Lists) : Type 0 where
@@ -56,7 +58,7 @@ pub record FullyCut (m : ℕ) (c : Lists) : Type 0 where
   pub other : (v : ℕ) → (InnerKnot m c v → ⊥) → occurrences v (cut m c .knots) ≡ occurrences v (c .knots)
 
 abbrev pub CutFull : Type 0
-CutFull = (m : ℕ) (c : Lists) → cutNumber m c ≡ accepted → FullyCut m c
+CutFull = (m : ℕ) (c : Lists) → cutNumber m c ≡ accepted → Clamped m (c .knots) (length (c .xs)) → FullyCut m c
 
 -- m points a piece and one more; m + 1 knots more than points
 pub record SizesOfCut (m : ℕ) (c : Lists) : Type 0 where
@@ -65,7 +67,7 @@ pub record SizesOfCut (m : ℕ) (c : Lists) : Type 0 where
   pub knots : length (cut m c .knots) ≡ pieceCount m c * m + 1 + m + 1
 
 abbrev pub CutSizes : Type 0
-CutSizes = (m : ℕ) (c : Lists) → cutNumber m c ≡ accepted → SizesOfCut m c
+CutSizes = (m : ℕ) (c : Lists) → cutNumber m c ≡ accepted → Clamped m (c .knots) (length (c .xs)) → SizesOfCut m c
 
 -- the k-th span of c that is not empty, counted from 0, and its two knots
 abbrev pub spanAt : ℕ → Lists → ℕ → ℕ
@@ -86,7 +88,7 @@ pub record KnotsOfCut (m : ℕ) (c : Lists) : Type 0 where
   pub right : (j : ℕ) → pieceCount m c * m < j → j < length (cut m c .knots) → getD (cut m c .knots) j 0 ≡ getD (c .knots) (length (c .xs)) 0
 
 abbrev pub CutKnots : Type 0
-CutKnots = (m : ℕ) (c : Lists) → cutNumber m c ≡ accepted → KnotsOfCut m c
+CutKnots = (m : ℕ) (c : Lists) → cutNumber m c ≡ accepted → Clamped m (c .knots) (length (c .xs)) → KnotsOfCut m c
 
 -- the spans that are not empty follow one another from end to end of the domain, and there is one at least
 pub record SpansInOrder (m : ℕ) (c : Lists) : Type 0 where
@@ -108,7 +110,7 @@ pub record KnotsOfPieces (m : ℕ) (c : Lists) : Type 0 where
   pub high : (k : ℕ) (past : Piece) → k < pieceCount m c → getD (pieces m c) k past .high ≡ highAt m c k
 
 abbrev pub PieceKnots : Type 0
-PieceKnots = (m : ℕ) (c : Lists) → cutNumber m c ≡ accepted → KnotsOfPieces m c
+PieceKnots = (m : ℕ) (c : Lists) → cutNumber m c ≡ accepted → Clamped m (c .knots) (length (c .xs)) → KnotsOfPieces m c
 
 -- the first insertion of the values that fails: every value before is accepted, and `Fails` holds of this one and of the curve that has those
 -- before it
@@ -120,7 +122,7 @@ pub record FirstFailing (m : ℕ) (vs : List ℕ) (c : Lists) (Fails : Lists →
   pub accepts : AcceptsEach m before c
   pub fails : Fails (insertedEach m before c) value
 
--- the number of cutting a curve that passes the check: 0 exactly where no insertion is refused, and else the number of the first that is; that
+-- the number of cutting a curve that passes the check and has clamped ends: 0 exactly where no insertion is refused, and else the number of the first that is; that
 -- is 10 where the curve has 1,024 points by then, 11 where it has fewer and a new coordinate is not whole, and never another
 pub record NumberOfCut (m : ℕ) (c : Lists) : Type 0 where
   pub none : (cutNumber m c ≡ accepted) ↔ AcceptsEach m (cuts m c) c
@@ -133,5 +135,5 @@ pub record NumberOfCut (m : ℕ) (c : Lists) : Type 0 where
 abbrev pub CutNumberIs : Type 0
 CutNumberIs =
     (m : ℕ) (c : Lists)
-    → (Passes m (c .knots) (c .xs) (c .ys) → NumberOfCut m c)
+    → (Passes m (c .knots) (c .xs) (c .ys) → Clamped m (c .knots) (length (c .xs)) → NumberOfCut m c)
     × ((checkNumber m (c .knots) (c .xs) (c .ys) ≡ accepted → ⊥) → cutNumber m c ≡ checkNumber m (c .knots) (c .xs) (c .ys))
