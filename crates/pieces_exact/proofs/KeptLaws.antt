@@ -10,6 +10,7 @@ use Rattle.carrying.specs.declared.Axis.{Axis}
 use Rattle.carrying.specs.declared.Axis.the-variants.{X, Y}
 use Rattle.grid.specs.Check.{Passes}
 use Rattle.grid.proofs.SizeLaws.{sizes-of-passes}
+use Rattle.checked.specs.Checked.{Clamped}
 use Rattle.insertion.specs.Insertion.{inserted}
 use Rattle.knots_exact.specs.SameCurve.{SameOnAxis, SameCurve}
 use Rattle.meeting_points.specs.Inserting.{InsertsEach}
@@ -37,9 +38,9 @@ pub axis-same : (axis : Axis) (m : ℕ) (c d : Lists) → SameCurve m c d → Sa
 axis-same X m c d s = s .x
 axis-same Y m c d s = s .y
 
-pub axis-count : (axis : Axis) (m : ℕ) (c : Lists) → cutNumber m c ≡ accepted → length (axisOf axis (cut m c)) ≡ pieceCount m c * m + 1
-axis-count X m c h = cut-sizes m c h .xs
-axis-count Y m c h = cut-sizes m c h .ys
+pub axis-count : (axis : Axis) (m : ℕ) (c : Lists) → cutNumber m c ≡ accepted → Clamped m (c .knots) (length (c .xs)) → length (axisOf axis (cut m c)) ≡ pieceCount m c * m + 1
+axis-count X m c h clamped = cut-sizes m c h clamped .xs
+axis-count Y m c h clamped = cut-sizes m c h clamped .ys
 
 pub axis-some : (axis : Axis) (m : ℕ) (c : Lists) → Passes m (c .knots) (c .xs) (c .ys) → 0 < length (axisOf axis c)
 axis-some X m c passes = omega (arith, sizes-of-passes m (c .knots) (c .xs) (c .ys) passes .enough)

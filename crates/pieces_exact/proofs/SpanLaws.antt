@@ -12,7 +12,7 @@ use lib.ListN.{length, getD}
 use Rattle.refusal.specs.Numbers.{accepted}
 use Rattle.curve.specs.Lists.{Lists}
 use Rattle.carrying.specs.declared.Axis.{Axis}
-use Rattle.checked.specs.Checked.{Checked}
+use Rattle.checked.specs.Checked.{Checked, Clamped}
 use Rattle.checked.proofs.CheckedLaws.{checked-of-passes}
 use Rattle.span.specs.Span.{IsSpan, spanOf}
 use Rattle.span.proofs.SentenceLaws.{span-exactly}
@@ -34,7 +34,7 @@ use Rattle.pieces_exact.specs.PieceCurve.{axisOf}
 use Rattle.pieces_exact.proofs.BezierLaws.{bezier-class}
 use Rattle.pieces_exact.proofs.KeptLaws.{axis-count}
 
-module _ (m : ℕ) (c : Lists) (h : cutNumber m c ≡ accepted) where
+module _ (m : ℕ) (c : Lists) (h : cutNumber m c ≡ accepted) (clamped : Clamped m (c .knots) (length (c .xs))) where
   abbrev ks : List ℕ
   ks = cut m c .knots
 
@@ -52,12 +52,12 @@ module _ (m : ℕ) (c : Lists) (h : cutNumber m c ≡ accepted) where
   starts : (k : ℕ) → k < pieceCount m c → (j : ℕ) → j ≤ k * m + m → k * m + m < j + m → rationalKnot ks j ≡ class (wholeN (lowAt m c k))
   starts k l j low high =
       let place : j ≡ k * m + 1 + (j - (k * m + 1)) = omega arith in
-      ap (λ i. rationalKnot ks i) place ∙ ap (λ v. class (wholeN v)) (cut-knots m c h .low k (j - (k * m + 1)) l (omega arith))
+      ap (λ i. rationalKnot ks i) place ∙ ap (λ v. class (wholeN v)) (cut-knots m c h clamped .low k (j - (k * m + 1)) l (omega arith))
 
   ends : (k : ℕ) → k < pieceCount m c → (j : ℕ) → k * m + m < j → j ≤ k * m + m + m → rationalKnot ks j ≡ class (wholeN (highAt m c k))
   ends k l j low high =
       let place : j ≡ k * m + m + 1 + (j - (k * m + m + 1)) = omega arith in
-      ap (λ i. rationalKnot ks i) place ∙ ap (λ v. class (wholeN v)) (cut-knots m c h .high k (j - (k * m + m + 1)) l (omega arith))
+      ap (λ i. rationalKnot ks i) place ∙ ap (λ v. class (wholeN v)) (cut-knots m c h clamped .high k (j - (k * m + m + 1)) l (omega arith))
 
   -- n is the last point's index; p/q lies from the piece's low knot on, and left of its high knot unless it is the last piece
   module _ (n k p q : ℕ) (last : n ≡ pieceCount m c * m) (l : k < pieceCount m c) (from : lowAt m c k * q ≤ p)
@@ -70,9 +70,9 @@ module _ (m : ℕ) (c : Lists) (h : cutNumber m c ≡ accepted) where
         elim (decLe j (k * m + m)) [
           | yes i ↦ i
           | no i ↦
-              let inside : j < length ks = omega (arith, cut-sizes m c h .knots) in
+              let inside : j < length ks = omega (arith, cut-sizes m c h clamped .knots) in
               let later = known .rising (k * m + m + 1) j (omega arith) inside in
-              let far : highAt m c k * q ≤ getD ks j 0 * q = mul-le-mul-right q (rw (high-knot m c h k l) at later) in
+              let far : highAt m c k * q ≤ getD ks j 0 * q = mul-le-mul-right q (rw (high-knot m c h clamped k l) at later) in
               absurd (omega arith)
         ]
 
@@ -80,17 +80,17 @@ module _ (m : ℕ) (c : Lists) (h : cutNumber m c ≡ accepted) where
     is-span = record {
       from = omega arith;
       to = omega (arith, ends-within k l);
-      starts = rw (low-knot m c h k l) from;
-      wide = rw (low-knot m c h k l, high-knot m c h k l) (order .wide k l);
+      starts = rw (low-knot m c h clamped k l) from;
+      wide = rw (low-knot m c h clamped k l, high-knot m c h clamped k l) (order .wide k l);
       largest = λ j most early wide. none-later j most early open-end;
     }
 
     pub span-is : k * m + m ≡ spanOf ks m n p q
     span-is =
         let within = ends-within k l in
-        let inside : k * m + m < length ks = omega (arith, cut-sizes m c h .knots) in
-        let first : getD ks m 0 ≤ lowAt m c k = rw (low-knot m c h k l) at (known .rising m (k * m + m) (omega arith) inside) in
-        let end : n + 1 ≡ length (cut m c .xs) = omega (arith, cut-sizes m c h .xs) in
+        let inside : k * m + m < length ks = omega (arith, cut-sizes m c h clamped .knots) in
+        let first : getD ks m 0 ≤ lowAt m c k = rw (low-knot m c h clamped k l) at (known .rising m (k * m + m) (omega arith) inside) in
+        let end : n + 1 ≡ length (cut m c .xs) = omega (arith, cut-sizes m c h clamped .xs) in
         span-exactly ks m n p q (omega arith) (le-trans (mul-le-mul-right q first) from) (rw end (known .domain)) (k * m + m) .0 is-span
 
   -- ps are the points of the piece on the asked axis
@@ -105,7 +105,7 @@ module _ (m : ℕ) (c : Lists) (h : cutNumber m c ≡ accepted) where
         let a = class (wholeN (lowAt m c k)) in
         let b = class (wholeN (highAt m c k)) in
         let t = rationalParameter p q in
-        let size = axis-count axis m c h in
+        let size = axis-count axis m c h clamped in
         let within = ends-within k l in
         let here = span-is (length us - 1) k p q (omega arith) l from open-end in
         equals-of-class (bezierAt m (lowAt m c k) (highAt m c k) ps p q) (exactAt m ks us p q)

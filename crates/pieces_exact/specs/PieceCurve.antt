@@ -1,4 +1,4 @@
--- What is promised of the pieces of a curve that is cut without a refusal (heading "Out to SVG"), in the words of the definition of `pieces`.
+-- What is promised of the pieces of a curve that is cut without a refusal (heading "Out to SVG"), most of it where its ends are clamped, in the words of the definition of `pieces`.
 -- `m` is the degree, `c` the curve; `past` is whatever is read past the end of the list of pieces, where nothing is claimed.
 use mathlib.Core.List.{List}
 use mathlib.Core.Path.{_≡_}
@@ -7,6 +7,7 @@ use lib.IntN.{ℤ, pos}
 use lib.ListN.{length, getD}
 use Rattle.refusal.specs.Numbers.{accepted}
 use Rattle.curve.specs.Lists.{Lists}
+use Rattle.checked.specs.Checked.{Clamped}
 use Rattle.carrying.specs.Carrying.{onAxis}
 use Rattle.carrying.specs.declared.Axis.{Axis}
 use Rattle.fractions.specs.Order.{Equals}
@@ -39,7 +40,7 @@ BezierIsCurve axis m c b =
 -- ... and so it is for every piece, on either axis
 abbrev pub PieceIsCurve : Type 0
 PieceIsCurve =
-    (axis : Axis) (m : ℕ) (c : Lists) (k : ℕ) (past : Piece) → cutNumber m c ≡ accepted → k < pieceCount m c
+    (axis : Axis) (m : ℕ) (c : Lists) (k : ℕ) (past : Piece) → cutNumber m c ≡ accepted → Clamped m (c .knots) (length (c .xs)) → k < pieceCount m c
     → BezierIsCurve axis m c (getD (pieces m c) k past)
 
 -- a piece has four places on an axis: the points k·m to k·m + m of the cut curve, and 0 in those that it does not use
@@ -60,7 +61,7 @@ pub record Meet (m : ℕ) (b d : Piece) : Type 0 where
 
 abbrev pub PiecesMeet : Type 0
 PiecesMeet =
-    (m : ℕ) (c : Lists) (k : ℕ) (past : Piece) → cutNumber m c ≡ accepted → k + 1 < pieceCount m c
+    (m : ℕ) (c : Lists) (k : ℕ) (past : Piece) → cutNumber m c ≡ accepted → Clamped m (c .knots) (length (c .xs)) → k + 1 < pieceCount m c
     → Meet m (getD (pieces m c) k past) (getD (pieces m c) (k + 1) past)
 
 -- the pieces go from t_m to t_{n+1}: there is one at least, for each span that is not empty one, none is empty, the first begins at the one end
@@ -73,4 +74,4 @@ pub record Cover (m : ℕ) (c : Lists) (past : Piece) : Type 0 where
   pub stop : getD (pieces m c) (length (pieces m c) - 1) past .high ≡ getD (c .knots) (length (c .xs)) 0
 
 abbrev pub PiecesCoverDomain : Type 0
-PiecesCoverDomain = (m : ℕ) (c : Lists) (past : Piece) → cutNumber m c ≡ accepted → Cover m c past
+PiecesCoverDomain = (m : ℕ) (c : Lists) (past : Piece) → cutNumber m c ≡ accepted → Clamped m (c .knots) (length (c .xs)) → Cover m c past
