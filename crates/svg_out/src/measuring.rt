@@ -1,4 +1,4 @@
-// How long the path data of a curve is, unless an insertion is refused.
+// How long the path data of a curve with clamped ends is, unless an insertion is refused.
 use crate::Measured;
 use cutting::Piece;
 ghost use mathlib.Core.Path.{_≡_};
@@ -6,6 +6,7 @@ ghost use Prim.Native.Nat.{_≤_};
 ghost use lib.ListN.{length};
 ghost use Rattle.curve.specs.Lists.{lists};
 ghost use Rattle.grid.specs.Check.{Passes};
+ghost use Rattle.checked.specs.Checked.{Clamped};
 ghost use Rattle.path_data.specs.Text.{partText};
 ghost use Rattle.path_data.specs.Sentences.{PieceOnGrid};
 ghost use Rattle.svg_out.specs.Measure.{partMost, Measures};
@@ -25,6 +26,7 @@ fn part_length(m: usize, k: usize, piece: Piece) -> usize
 // Walks over the pieces and adds up their lengths.
 pub(crate) fn measure(m: usize, knots: &[u16], xs: &[i32], ys: &[i32]) -> Measured
     requires { ⌜ Passes m (now knots) (now xs) (now ys) ⌝ }
+    requires { ⌜ Clamped m (now knots) (length (now xs)) ⌝ }
     ensures answer { λ r. ⌜ Measures m (lists (now (knots .entry)) (now (xs .entry)) (now (ys .entry))) r ⌝ }
 {
     let mut walk = pieces::start(m, xs, ys);

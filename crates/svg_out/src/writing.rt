@@ -1,4 +1,4 @@
-// The path data of a curve whose insertions are all accepted, written.
+// The path data of a curve with clamped ends whose insertions are all accepted, written.
 use cutting::Piece;
 ghost use mathlib.Core.Path.{_≡_};
 ghost use Prim.Native.Nat.{_+_, _≤_};
@@ -6,6 +6,7 @@ ghost use lib.ListN.{length};
 ghost use Rattle.lent.specs.Lent.{over};
 ghost use Rattle.curve.specs.Lists.{lists};
 ghost use Rattle.grid.specs.Check.{Passes};
+ghost use Rattle.checked.specs.Checked.{Clamped};
 ghost use Rattle.cutting.specs.Cutting.{cuts, insertableEachThen};
 ghost use Rattle.digits.specs.Put.{Put};
 ghost use Rattle.path_data.specs.Text.{partText};
@@ -27,6 +28,7 @@ fn put_part(out: &mut [u8], at: usize, m: usize, k: usize, piece: Piece) -> usiz
 // Walks over the pieces and puts one behind the other.
 pub(crate) fn put_path(m: usize, knots: &[u16], xs: &[i32], ys: &[i32], out: &mut [u8])
     requires { ⌜ Passes m (now knots) (now xs) (now ys) ⌝ }
+    requires { ⌜ Clamped m (now knots) (length (now xs)) ⌝ }
     requires { ⌜ insertableEachThen m (cuts m (lists (now knots) (now xs) (now ys))) (lists (now knots) (now xs) (now ys)) 0 ≡ 0 ⌝ }
     requires { ⌜ length (svgText m (lists (now knots) (now xs) (now ys))) ≤ length (now out) ⌝ }
     ensures result { λ _. ⌜ now (out .exit) ≡ over (svgText m (lists (now (knots .entry)) (now (xs .entry)) (now (ys .entry)))) (now (out .entry)) ⌝ }

@@ -17,12 +17,12 @@ abbrev μ-loop : tie.MeasureT-loop
 μ-loop m knots xs ys walk₀ length₀ walk length = lib.ListN.length xs - walk .span
 
 start-requires : tie.Need-start-requires Inv-loop μ-loop
-start-requires c κs = (c .before .args .knots .now, c .before .pre)
+start-requires c κs = (c .before .args .knots .now, c .before .pre .0)
 
 loop-holds : tie.Need-loop-holds Inv-loop μ-loop
 loop-holds c =
     let a = c .before .before .args in
-    measuring-begins (a .m) (lists (a .knots .now) (a .xs .now) (a .ys .now)) (c .start .result) 0 (c .start .ensures .0 (a .knots .now) (c .before .before .pre)) (c .start .ensures .1) refl
+    measuring-begins (a .m) (lists (a .knots .now) (a .xs .now) (a .ys .now)) (c .start .result) 0 (c .start .ensures .0 (a .knots .now) (c .before .before .pre .0) (c .before .before .pre .1)) (c .start .ensures .1) refl
 
 next-piece-requires : tie.Need-next-piece-requires Inv-loop μ-loop
 next-piece-requires c κs =

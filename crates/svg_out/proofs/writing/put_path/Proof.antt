@@ -21,7 +21,7 @@ loop-holds : tie.Need-loop-holds Inv-loop μ-loop
 loop-holds c =
     let start = c .before .before .before in
     let a = start .args in
-    writing-begins (a .m) (lists (a .knots .now) (a .xs .now) (a .ys .now)) (a .out .now) (start .pre .1 .0) (start .pre .1 .1) (c .start .result) (c .start .ensures .0 (a .knots .now) (start .pre .0)) (c .start .ensures .1)
+    writing-begins (a .m) (lists (a .knots .now) (a .xs .now) (a .ys .now)) (a .out .now) (start .pre .1 .1 .0) (start .pre .1 .1 .1) (c .start .result) (c .start .ensures .0 (a .knots .now) (start .pre .0) (start .pre .1 .0)) (c .start .ensures .1)
 
 next-piece-requires : tie.Need-next-piece-requires Inv-loop μ-loop
 next-piece-requires c κs =
@@ -29,7 +29,7 @@ next-piece-requires c κs =
     let a = start .args in
     let so = c .before .before .loop in
     let test : so .walk .span < length (a .xs .now) = omega (arith, c .if1 .taken) in
-    writing-at (a .m) (lists (a .knots .now) (a .xs .now) (a .ys .now)) (a .out .now) (start .pre .1 .0) (start .pre .1 .1) (so .out) (so .walk) (so .place) (so .inv) test
+    writing-at (a .m) (lists (a .knots .now) (a .xs .now) (a .ys .now)) (a .out .now) (start .pre .1 .1 .0) (start .pre .1 .1 .1) (so .out) (so .walk) (so .place) (so .inv) test
 
 put-part-requires : tie.Need-put-part-requires Inv-loop μ-loop
 put-part-requires c κs =
@@ -38,7 +38,7 @@ put-part-requires c κs =
     let so = c .before .before .before .before .before .loop in
     let test : so .walk .span < length (a .xs .now) = omega (arith, c .before .before .before .if1 .taken) in
     let handed = c .before .before .next-piece in
-    (bounds (a .m) (lists (a .knots .now) (a .xs .now) (a .ys .now)) (so .walk) (writing-at (a .m) (lists (a .knots .now) (a .xs .now) (a .ys .now)) (a .out .now) (start .pre .1 .0) (start .pre .1 .1) (so .out) (so .walk) (so .place) (so .inv) test) .degree, room-for-part (a .m) (lists (a .knots .now) (a .xs .now) (a .ys .now)) (a .out .now) (start .pre .1 .0) (start .pre .1 .1) (so .out) (so .walk) (so .place) (so .inv) test (handed .result) (handed .ensures))
+    (bounds (a .m) (lists (a .knots .now) (a .xs .now) (a .ys .now)) (so .walk) (writing-at (a .m) (lists (a .knots .now) (a .xs .now) (a .ys .now)) (a .out .now) (start .pre .1 .1 .0) (start .pre .1 .1 .1) (so .out) (so .walk) (so .place) (so .inv) test) .degree, room-for-part (a .m) (lists (a .knots .now) (a .xs .now) (a .ys .now)) (a .out .now) (start .pre .1 .1 .0) (start .pre .1 .1 .1) (so .out) (so .walk) (so .place) (so .inv) test (handed .result) (handed .ensures))
 
 loop-less : tie.Need-loop-less Inv-loop μ-loop
 loop-less c =
@@ -47,7 +47,7 @@ loop-less c =
     let so = c .before .before .before .before .before .before .before .before .before .loop in
     let test : so .walk .span < length (a .xs .now) = omega (arith, c .before .before .before .before .before .before .before .if1 .taken) in
     let handed = c .before .before .before .before .before .before .next-piece in
-    write-nearer (a .m) (lists (a .knots .now) (a .xs .now) (a .ys .now)) (a .out .now) (start .pre .1 .0) (start .pre .1 .1) (so .out) (so .walk) (so .place) (so .inv) test (handed .result) (handed .ensures)
+    write-nearer (a .m) (lists (a .knots .now) (a .xs .now) (a .ys .now)) (a .out .now) (start .pre .1 .1 .0) (start .pre .1 .1 .1) (so .out) (so .walk) (so .place) (so .inv) test (handed .result) (handed .ensures)
 
 loop-again : tie.Need-loop-again Inv-loop μ-loop
 loop-again c =
@@ -56,21 +56,21 @@ loop-again c =
     let so = c .before .before .before .before .before .before .before .before .before .loop in
     let test : so .walk .span < length (a .xs .now) = omega (arith, c .before .before .before .before .before .before .before .if1 .taken) in
     let handed = c .before .before .before .before .before .before .next-piece in
-    writing-goes (a .m) (lists (a .knots .now) (a .xs .now) (a .ys .now)) (a .out .now) (start .pre .1 .0) (start .pre .1 .1) (so .out) (so .walk) (so .place) (so .inv) test (handed .result) (handed .ensures) _ _ (c .before .before .before .put-part .ensures)
+    writing-goes (a .m) (lists (a .knots .now) (a .xs .now) (a .ys .now)) (a .out .now) (start .pre .1 .1 .0) (start .pre .1 .1 .1) (so .out) (so .walk) (so .place) (so .inv) test (handed .result) (handed .ensures) _ _ (c .before .before .before .put-part .ensures)
 
 same-length : tie.Need-same-length Inv-loop μ-loop
 same-length c =
     let start = c .before .before .before .before .before .before in
     let a = start .args in
     let so = c .before .before .loop in
-    write-length (a .m) (lists (a .knots .now) (a .xs .now) (a .ys .now)) (a .out .now) (start .pre .1 .0) (start .pre .1 .1) (so .out) (so .walk) (so .place) (so .inv) (λ h. omega (arith, c .if1 .left))
+    write-length (a .m) (lists (a .knots .now) (a .xs .now) (a .ys .now)) (a .out .now) (start .pre .1 .1 .0) (start .pre .1 .1 .1) (so .out) (so .walk) (so .place) (so .inv) (λ h. omega (arith, c .if1 .left))
 
 returns : tie.Need-returns Inv-loop μ-loop
 returns c =
     let start = c .before .before .before .before .before .before in
     let a = start .args in
     let so = c .before .before .loop in
-    write-ends (a .m) (lists (a .knots .now) (a .xs .now) (a .ys .now)) (a .out .now) (start .pre .1 .0) (start .pre .1 .1) (so .out) (so .walk) (so .place) (so .inv) (λ h. omega (arith, c .if1 .left))
+    write-ends (a .m) (lists (a .knots .now) (a .xs .now) (a .ys .now)) (a .out .now) (start .pre .1 .1 .0) (start .pre .1 .1 .1) (so .out) (so .walk) (so .place) (so .inv) (λ h. omega (arith, c .if1 .left))
 
 pub put-path-spec : {M : Type 1} → statement M
 put-path-spec =
