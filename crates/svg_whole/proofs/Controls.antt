@@ -10,8 +10,9 @@ use Rattle.curve.specs.Lists.{Lists, lists}
 use Rattle.signed.specs.Division.{divides}
 use Rattle.span.specs.Span.{strictlyInside}
 use Rattle.grid.specs.Limits.{pointsMost}
-use Rattle.grid.specs.Rows.{degreeOk, pointCountOk, knotCountOk, risesFrom, knotOrderOk, allAre, endsOk, occurrences, repeatsMost, repeatsWithin, repeatsOk, onGrid, allOnGrid, rangeOk}
+use Rattle.grid.specs.Rows.{degreeOk, pointCountOk, knotCountOk, risesFrom, knotOrderOk, endsOk, occurrences, repeatsMost, repeatsWithin, repeatsOk, onGrid, allOnGrid, rangeOk}
 use Rattle.grid.specs.Check.{checkedThen}
+use Rattle.checked.specs.Checked.{Clamped}
 use Rattle.insertion.specs.Insertion.{knotsUpTo, insertionSpan, weightedSum, weight, entries, wholeFrom, wholePoints}
 use Rattle.insertion.specs.Judged.{valueOk, placeOk, wholeOk, insertableThen}
 use Rattle.insertion.specs.Sentences.{NotWhole}
@@ -20,6 +21,7 @@ use Rattle.digits.specs.Decimal.{digitsOf, decimal}
 use Rattle.cutting.specs.Cutting.{endsFrom, lacking, insertedEach, insertableEachThen, cutThen, cuts}
 use Rattle.cutting.specs.Pieces.{fourFrom, pieceOf, pieces}
 use Rattle.cut_whole.specs.Sentences.{FirstFailing}
+use Rattle.cut_whole.proofs.ClampedLaws.{runs-clamped}
 use Rattle.path_data.specs.Text.{pairsText, segmentText, segmentsText, moveText, pathText}
 use Rattle.svg_out.specs.Svg.{svgText, svgNumber}
 use Rattle.svg_whole.specs.Outcome.{SvgAnswersFirst}
@@ -40,18 +42,22 @@ unfolding curveA lacking endsFrom highKnots keep upFrom occurrences insertedEach
 text-has-19 = refl
 
 enough : svgNumber 3 curveA (places 19) ≡ 0
-unfolding curveA places svgNumber cutThen lacking endsFrom highKnots keep upFrom insertableEachThen strictlyInside divides degreeOk pointCountOk knotCountOk risesFrom knotOrderOk allAre endsOk occurrences repeatsMost repeatsWithin repeatsOk onGrid allOnGrid rangeOk checkedThen insertedEach spanCount entries fourFrom pieceOf pieces pathText moveText segmentsText segmentText pairsText decimal digitsOf
+unfolding curveA places svgNumber cutThen lacking endsFrom highKnots keep upFrom insertableEachThen strictlyInside divides degreeOk pointCountOk knotCountOk risesFrom knotOrderOk endsOk occurrences repeatsMost repeatsWithin repeatsOk onGrid allOnGrid rangeOk checkedThen insertedEach spanCount entries fourFrom pieceOf pieces pathText moveText segmentsText segmentText pairsText decimal digitsOf
 enough = refl
 
 one-short : svgNumber 3 curveA (places 18) ≡ 15
-unfolding curveA places svgNumber cutThen lacking endsFrom highKnots keep upFrom insertableEachThen strictlyInside divides degreeOk pointCountOk knotCountOk risesFrom knotOrderOk allAre endsOk occurrences repeatsMost repeatsWithin repeatsOk onGrid allOnGrid rangeOk checkedThen insertedEach spanCount entries fourFrom pieceOf pieces pathText moveText segmentsText segmentText pairsText decimal digitsOf
+unfolding curveA places svgNumber cutThen lacking endsFrom highKnots keep upFrom insertableEachThen strictlyInside divides degreeOk pointCountOk knotCountOk risesFrom knotOrderOk endsOk occurrences repeatsMost repeatsWithin repeatsOk onGrid allOnGrid rangeOk checkedThen insertedEach spanCount entries fourFrom pieceOf pieces pathText moveText segmentsText segmentText pairsText decimal digitsOf
 one-short = refl
+
+odd-clamped : Clamped 2 (curveOdd .knots) (length (curveOdd .xs))
+unfolding curveOdd
+odd-clamped = runs-clamped 2 0 4 (2 ∷ [])
 
 -- 11 comes before 15
 not-whole-first : svgNumber 2 curveOdd (places 0) ≡ 11
-unfolding curveOdd places svgNumber cutThen lacking endsFrom highKnots keep upFrom insertableEachThen strictlyInside divides degreeOk pointCountOk knotCountOk risesFrom knotOrderOk allAre endsOk occurrences repeatsMost repeatsWithin repeatsOk onGrid allOnGrid rangeOk checkedThen knotsUpTo insertionSpan weightedSum weight wholeFrom wholePoints valueOk placeOk wholeOk insertableThen
+unfolding curveOdd places svgNumber cutThen lacking endsFrom highKnots keep upFrom insertableEachThen strictlyInside divides degreeOk pointCountOk knotCountOk risesFrom knotOrderOk endsOk occurrences repeatsMost repeatsWithin repeatsOk onGrid allOnGrid rangeOk checkedThen knotsUpTo insertionSpan weightedSum weight wholeFrom wholePoints valueOk placeOk wholeOk insertableThen
 not-whole-first = refl
 
 -- what is said of the rows is said of this curve, whatever proves it
 rows-say : SvgAnswersFirst → FirstFailing 2 (cuts 2 curveOdd) curveOdd (λ d v. (length (d .xs) < pointsMost) × NotWhole 2 d v)
-rows-say says = says 2 curveOdd (places 0) .first 8 (omega arith) .0 not-whole-first .0
+rows-say says = says 2 curveOdd (places 0) odd-clamped .first 8 (omega arith) .0 not-whole-first .0

@@ -12,9 +12,9 @@ use Rattle.refusal.specs.Numbers.{accepted}
 use Rattle.curve.specs.Lists.{Lists, lists, NeverFall}
 use Rattle.grid.specs.Check.{Passes}
 use Rattle.grid.specs.Limits.{pointsMost, knotMost, pairBytesMost}
-use Rattle.grid.specs.Rows.{occurrences, knotOrderOk, risesFrom, firstKnot, lastKnot}
+use Rattle.grid.specs.Rows.{occurrences, knotOrderOk, risesFrom}
 use Rattle.grid.proofs.RepeatLaws.{occurrences-most}
-use Rattle.checked.specs.Checked.{OnGrid}
+use Rattle.checked.specs.Checked.{OnGrid, Clamped}
 use Rattle.checked.proofs.CheckedLaws.{passes-of-checked}
 use Rattle.checked.proofs.OccurrenceLaws.{occurs-at}
 use Rattle.checked.proofs.RisingLaws.{order-judged}
@@ -35,10 +35,10 @@ none-stand [] h = refl
 none-stand (t ∷ ts) h = absurd (omega (arith, h t, occurs-at t (t ∷ ts) 0 (omega arith) refl))
 
 -- at degree 1 every inner knot stands often enough, and nothing is inserted
-module _ (c : Lists) (passes : Passes 1 (c .knots) (c .xs) (c .ys)) where
+module _ (c : Lists) (passes : Passes 1 (c .knots) (c .xs) (c .ys)) (clamped : Clamped 1 (c .knots) (length (c .xs))) where
   no-value : (v : ℕ) → occurrences v (cuts 1 c) ≡ 0
   no-value v =
-      let counted = cuts-counted 1 c passes in
+      let counted = cuts-counted 1 c passes clamped in
       elim (decLe 1 (occurrences v (cuts 1 c))) [
         | no none ↦ omega arith
         | yes some ↦ counted .other v (λ k. omega (arith, counted .inner v k, k .stands))
@@ -49,7 +49,7 @@ module _ (c : Lists) (passes : Passes 1 (c .knots) (c .xs) (c .ys)) where
 
   pub line-accepted : cutNumber 1 c ≡ accepted
   line-accepted =
-      cut-number-is 1 c .0 passes .none .1
+      cut-number-is 1 c .0 passes clamped .none .1
       (λ before v later e. absurd (omega (arith, ap length (sym no-cuts ∙ e), length-append before (v ∷ later))))
 
   pub line-uncut : cut 1 c ≡ c
@@ -76,8 +76,8 @@ module _ (p : ℕ) (few : p + 2 ≤ pointsMost) where
   points-many : length farPoints ≡ p + 2
   points-many = length-replicate (p + 2) lowest
 
-  last-knot : lastKnot farKnots ≡ p + 1
-  last-knot = let last : length farKnots - 1 ≡ p + 3 = omega (arith, knots-many) in rw last (knot-at (p + 3) (omega arith) ∙ omega arith)
+  end-knot : getD farKnots (length farPoints) 0 ≡ p + 1
+  end-knot = rw points-many (knot-at (p + 2) (omega arith) ∙ omega arith)
 
   rises : NeverFall farKnots
   rises a b le l = omega (arith, knots-many, knot-at a (omega (arith, knots-many)), knot-at b (omega (arith, knots-many)))
@@ -98,14 +98,10 @@ module _ (p : ℕ) (few : p + 2 ≤ pointsMost) where
   equal-neighbours : (v j : ℕ) → 0 < v → j + 1 < p + 4 → getD farKnots j 0 ≡ v → getD farKnots (j + 1) 0 ≡ v → v ≡ p + 1
   equal-neighbours v j above inside low high = omega (arith, low, high, knot-at j (omega arith), knot-at (j + 1) inside)
 
-  stands-once : (v : ℕ) → (v ≡ firstKnot farKnots → ⊥) → (v ≡ lastKnot farKnots → ⊥) → occurrences v farKnots ≤ 1
-  stands-once v first last =
+  stands-once : (v : ℕ) → getD farKnots 1 0 < v → v < getD farKnots (length farPoints) 0 → occurrences v farKnots ≤ 1
+  stands-once v above below =
       occurrences-most v 1 0 farKnots order
-      (λ j l e inside low high.
-      elim (decLe v 0) [
-        | yes zero ↦ first (omega (arith, zero, knot-at 0 (omega arith)))
-        | no above ↦ last (equal-neighbours v j (omega arith) (omega (arith, knots-many)) low (rw e at high) ∙ sym last-knot)
-      ])
+      (λ j l e inside low high. omega (arith, end-knot, equal-neighbours v j (omega arith) (omega (arith, knots-many)) low (rw e at high)))
 
   on-grid : (a : ℕ) → a < length farPoints → OnGrid (getD farPoints a (pos 0))
   on-grid a h = rw (getD-replicate (p + 2) a lowest (pos 0) (omega (arith, points-many))) lowest-on-grid
@@ -125,8 +121,6 @@ module _ (p : ℕ) (few : p + 2 ≤ pointsMost) where
             };
         rising = rises;
         largest = small;
-        firsts = λ a h. omega (arith, knot-at a (omega arith), knot-at 0 (omega arith));
-        lasts = λ a h l. omega (arith, points-many, knots-many, last-knot, knot-at a (omega (arith, knots-many)));
         domain = rw points-many (omega (arith, knot-at 1 (omega arith), knot-at (p + 2) (omega arith)));
         inner = stands-once;
         outer = stands-twice;
@@ -134,14 +128,21 @@ module _ (p : ℕ) (few : p + 2 ≤ pointsMost) where
         gridY = on-grid;
       })
 
+  far-clamped : Clamped 1 farKnots (length farPoints)
+  far-clamped =
+      record {
+        firsts = λ a h. omega (arith, knot-at a (omega arith), knot-at 1 (omega arith));
+        lasts = λ a h l. omega (arith, points-many, knots-many, end-knot, knot-at a (omega (arith, knots-many)));
+      }
+
   far-accepted : cutNumber 1 farCurve ≡ accepted
-  far-accepted = line-accepted farCurve far-passes
+  far-accepted = line-accepted farCurve far-passes far-clamped
 
   far-uncut : cut 1 farCurve ≡ farCurve
-  far-uncut = line-uncut farCurve far-passes
+  far-uncut = line-uncut farCurve far-passes far-clamped
 
   count-is : pieceCount 1 farCurve ≡ suc p
-  count-is = omega (arith, cut-sizes 1 farCurve far-accepted .xs, ap (λ c. length (c .xs)) far-uncut, points-many)
+  count-is = omega (arith, cut-sizes 1 farCurve far-accepted far-clamped .xs, ap (λ c. length (c .xs)) far-uncut, points-many)
 
   -- both points of every piece are there
   point-is : (k a : ℕ) → k ≤ p → a ≤ 1 → pointAt farPoints (k * 1 + a) ≡ lowest
@@ -159,8 +160,8 @@ module _ (p : ℕ) (few : p + 2 ≤ pointsMost) where
   unfolding pieces
   far-length = rw (count-is, far-uncut) (farthest-path (pieceOf 1 farCurve) p all-farthest)
 
-  reached : (m : ℕ) × (c : Lists) × (cutNumber m c ≡ accepted) × (length (svgText m c) ≡ (1 + pairBytesMost) + suc p * (2 + pairBytesMost))
-  reached = (1, farCurve, far-accepted, far-length)
+  reached : (m : ℕ) × (c : Lists) × (cutNumber m c ≡ accepted) × Clamped m (c .knots) (length (c .xs)) × (length (svgText m c) ≡ (1 + pairBytesMost) + suc p * (2 + pairBytesMost))
+  reached = (1, farCurve, far-accepted, far-clamped, far-length)
 
 pub svg-most-reached : SvgMostReached
 svg-most-reached = reached (pointsMost - 2) (omega arith)

@@ -17,6 +17,7 @@ use Rattle.curve.specs.Lists.{Lists}
 use Rattle.grid.specs.Limits.{pointsMost}
 use Rattle.grid.specs.Check.{Passes}
 use Rattle.grid.proofs.ThenLaws.{checkedThen-passed}
+use Rattle.checked.specs.Checked.{Clamped}
 use Rattle.checked.proofs.TestLaws.{fails-iff, leb-judged}
 use Rattle.checked.proofs.SentenceLaws.{curve-judged}
 use Rattle.insertion.specs.Sentences.{Full, NotWhole}
@@ -31,8 +32,8 @@ module _ (m : ℕ) (c : Lists) (out : List ℕ) where
   abbrev room : ℕ
   room = unless (leb (length (svgText m c)) (length out)) roomRefused accepted
 
-  -- 10, 11 and 15 of a curve that passes the check
-  module _ (passing : Passes m (c .knots) (c .xs) (c .ys)) where
+  -- 10, 11 and 15 of a curve that passes the check and has clamped ends
+  module _ (passing : Passes m (c .knots) (c .xs) (c .ys)) (clamped : Clamped m (c .knots) (length (c .xs))) where
     abbrev all : ℕ
     all = insertableEachThen m (cuts m c) c room
 
@@ -42,7 +43,7 @@ module _ (m : ℕ) (c : Lists) (out : List ℕ) where
     alone = checkedThen-passed m (c .knots) (c .xs) (c .ys) (insertableEachThen m (cuts m c) c accepted) passing
 
     abbrev says : NumberOfCut m c
-    says = cut-number-is m c .0 passing
+    says = cut-number-is m c .0 passing clamped
 
     -- a number of the insertions is the answer, whatever is judged next
     refused-by : (n : ℕ) → cutNumber m c ≡ suc n → all ≡ suc n
@@ -69,22 +70,22 @@ module _ (m : ℕ) (c : Lists) (out : List ℕ) where
 
 pub svg-answers-first : SvgAnswersFirst
 unfolding svgNumber cutThen
-svg-answers-first m c out =
+svg-answers-first m c out clamped =
     answers-first _ _ refl
     (curve-judged m (c .knots) (c .xs) (c .ys) _ _ λ passing.
-    by-number m c out passing (cut-number-is m c .0 passing .no-other))
+    by-number m c out passing clamped (cut-number-is m c .0 passing clamped .no-other))
 
 -- nothing is refused: there is room for the text
-room-of-accepted : (m : ℕ) (c : Lists) (out : List ℕ) → svgNumber m c out ≡ 0 → length (svgText m c) ≤ length out
-room-of-accepted m c out e =
-    let fine : length out < length (svgText m c) → ⊥ = svg-answers-first m c out .none .0 e 9 in
+room-of-accepted : (m : ℕ) (c : Lists) (out : List ℕ) → svgNumber m c out ≡ 0 → Clamped m (c .knots) (length (c .xs)) → length (svgText m c) ≤ length out
+room-of-accepted m c out e clamped =
+    let fine : length out < length (svgText m c) → ⊥ = svg-answers-first m c out clamped .none .0 e 9 in
     omega (arith, fine)
 
 pub success-writes-text : SuccessWritesText
-success-writes-text m c before answer now so e =
+success-writes-text m c before answer now so e clamped =
     let text = svgText m c in (
       so .answers ∙ rw e,
-      subst (λ (l : List ℕ). ResultThenRest text before l) (sym (so .hands ∙ rw e)) (success-puts-result ℕ text before (room-of-accepted m c before e)),
+      subst (λ (l : List ℕ). ResultThenRest text before l) (sym (so .hands ∙ rw e)) (success-puts-result ℕ text before (room-of-accepted m c before e clamped)),
     )
 
 pub refusal-writes-nothing : RefusalWritesNothing

@@ -9,6 +9,7 @@ use lib.ListN.{length}
 use Rattle.refusal.specs.Numbers.{accepted}
 use Rattle.curve.specs.Lists.{Lists}
 use Rattle.grid.proofs.SizeLaws.{sizes-of-passes}
+use Rattle.checked.specs.Checked.{Clamped}
 use Rattle.insertion.proofs.EntryLaws.{entries-length}
 use Rattle.cutting.specs.Cutting.{cut, cutNumber}
 use Rattle.cutting.specs.Pieces.{pieceOf, pieceCount, pieces}
@@ -31,25 +32,26 @@ module _ (m : ℕ) (c : Lists) (none : cutNumber m c ≡ accepted) where
   unfolding pieces
   pieces-count = entries-length (pieceOf m (cut m c)) count
 
-  -- piece k lies within the points of the cut curve
-  piece-within : (k : ℕ) → k < count → k * m + m < length (cut m c .xs)
-  piece-within k h = omega (arith, cut-sizes m c none .xs, suc-mul k m, mul-le-mul-right m h)
+  module _ (clamped : Clamped m (c .knots) (length (c .xs))) where
+    -- piece k lies within the points of the cut curve
+    piece-within : (k : ℕ) → k < count → k * m + m < length (cut m c .xs)
+    piece-within k h = omega (arith, cut-sizes m c none clamped .xs, suc-mul k m, mul-le-mul-right m h)
 
-  pieces-on-grid : EachOnGrid m (pieces m c)
-  unfolding pieces
-  pieces-on-grid =
-      entries-on-grid m (pieceOf m (cut m c)) count
-      (λ k h. piece-on-grid m (cut m c) k (cut-passes m c none .cut-passes) (piece-within k h))
+    pieces-on-grid : EachOnGrid m (pieces m c)
+    unfolding pieces
+    pieces-on-grid =
+        entries-on-grid m (pieceOf m (cut m c)) count
+        (λ k h. piece-on-grid m (cut m c) k (cut-passes m c none .cut-passes) (piece-within k h))
 
-  pub pieces-of-curve : OfCurve m (pieces m c)
-  pieces-of-curve =
-      let d = cut m c in
-      let sizes = sizes-of-passes m (d .knots) (d .xs) (d .ys) (cut-passes m c none .cut-passes) in
-      record {
-        degree = sizes .degree-least;
-        points = omega (arith, cut-sizes m c none .xs, sizes .most, ap (λ n. n * m) pieces-count);
-        grid = pieces-on-grid;
-      }
+    pub pieces-of-curve : OfCurve m (pieces m c)
+    pieces-of-curve =
+        let d = cut m c in
+        let sizes = sizes-of-passes m (d .knots) (d .xs) (d .ys) (cut-passes m c none .cut-passes) in
+        record {
+          degree = sizes .degree-least;
+          points = omega (arith, cut-sizes m c none clamped .xs, sizes .most, ap (λ n. n * m) pieces-count);
+          grid = pieces-on-grid;
+        }
 
 -- some pieces, at least one
 of-grammar : (m : ℕ) (ps : List Piece) → 1 ≤ m → m ≤ 3 → 1 ≤ length ps → svgPath (pathText m ps)
@@ -63,4 +65,4 @@ svg-is-path-data m c none =
     of-grammar m (pieces m c) (sizes .degree-least) (sizes .degree-most) (omega (arith, pieces-count m c none, spans-follow m c passes .some))
 
 pub svg-within-most : SvgWithinMost
-svg-within-most m c none = text-within-most m (pieces m c) (pieces-of-curve m c none)
+svg-within-most m c none clamped = text-within-most m (pieces m c) (pieces-of-curve m c none clamped)

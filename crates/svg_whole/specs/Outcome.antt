@@ -7,6 +7,7 @@ use Rattle.refusal.specs.Chain.{Row, row, AnswersFirst}
 use Rattle.lent.specs.Sentences.{ResultThenRest}
 use Rattle.curve.specs.Lists.{Lists}
 use Rattle.grid.specs.Limits.{pointsMost}
+use Rattle.checked.specs.Checked.{Clamped}
 use Rattle.checked.specs.Sentences.{curveRows}
 use Rattle.insertion.specs.Sentences.{Full, NotWhole}
 use Rattle.cutting.specs.Cutting.{cuts}
@@ -25,14 +26,14 @@ svgRows m c out =
     ∷ row 15 (length out < length (svgText m c))
     ∷ [])
 
--- the call answers n exactly when row n applies and none before it does, and 0 exactly when none applies
+-- of a curve with clamped ends the call answers n exactly when row n applies and none before it does, and 0 exactly when none applies
 abbrev pub SvgAnswersFirst : Type 0
-SvgAnswersFirst = (m : ℕ) (c : Lists) (out : List ℕ) → AnswersFirst (svgNumber m c out) (svgRows m c out)
+SvgAnswersFirst = (m : ℕ) (c : Lists) (out : List ℕ) → Clamped m (c .knots) (length (c .xs)) → AnswersFirst (svgNumber m c out) (svgRows m c out)
 
--- where nothing is refused the answer is how long the text is, and the list holds it in front and then what it held
+-- where nothing of such a curve is refused the answer is how long the text is, and the list holds it in front and then what it held
 abbrev pub SuccessWritesText : Type 0
 SuccessWritesText =
-    (m : ℕ) (c : Lists) (before : List ℕ) (answer : SvgAnswer) (now : List ℕ) → SvgOutcome m c before answer now → svgNumber m c before ≡ 0
+    (m : ℕ) (c : Lists) (before : List ℕ) (answer : SvgAnswer) (now : List ℕ) → SvgOutcome m c before answer now → svgNumber m c before ≡ 0 → Clamped m (c .knots) (length (c .xs))
     → (answer ≡ Written (length (svgText m c))) × ResultThenRest (svgText m c) before now
 
 -- a refusal answers its number and nothing else, and leaves the list as it was

@@ -5,6 +5,7 @@ use lib.ListN.{length}
 use Rattle.refusal.specs.Numbers.{accepted}
 use Rattle.curve.specs.Lists.{Lists}
 use Rattle.grid.specs.Limits.{svgMost}
+use Rattle.checked.specs.Checked.{Clamped}
 use Rattle.cutting.specs.Cutting.{cutNumber}
 use Rattle.path_data.specs.Grammar.{svgPath}
 use Rattle.svg_out.specs.Svg.{svgText}
@@ -13,10 +14,10 @@ use Rattle.svg_out.specs.Svg.{svgText}
 abbrev pub SvgIsPathData : Type 0
 SvgIsPathData = (m : ℕ) (c : Lists) → cutNumber m c ≡ accepted → svgPath (svgText m c)
 
--- no curve's is longer than the longest
+-- no curve's with clamped ends is longer than the longest
 abbrev pub SvgWithinMost : Type 0
-SvgWithinMost = (m : ℕ) (c : Lists) → cutNumber m c ≡ accepted → length (svgText m c) ≤ svgMost
+SvgWithinMost = (m : ℕ) (c : Lists) → cutNumber m c ≡ accepted → Clamped m (c .knots) (length (c .xs)) → length (svgText m c) ≤ svgMost
 
--- and some curve's is as long
+-- and some such curve's is as long
 abbrev pub SvgMostReached : Type 0
-SvgMostReached = (m : ℕ) × (c : Lists) × (cutNumber m c ≡ accepted) × (length (svgText m c) ≡ svgMost)
+SvgMostReached = (m : ℕ) × (c : Lists) × (cutNumber m c ≡ accepted) × Clamped m (c .knots) (length (c .xs)) × (length (svgText m c) ≡ svgMost)
