@@ -1,2 +1,5 @@
 -- Why clamping and unclamping keep the exact curve, and are the only polygons that do.
 pub mod ShareLaws
+pub mod EntryLaws
+pub mod EndLaws
+pub mod PartLaws
