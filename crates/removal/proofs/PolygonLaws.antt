@@ -187,7 +187,7 @@ module _ (m : ℕ) (ts : List ℕ) (xs ys : List ℤ) (v : ℕ) (inner : Inner m
         high = rw e (omega (arith, rw last at (knot-behind (length xs - 1) (omega (arith, fewer-right))), inner .high));
       }
 
-  -- v is no end value, so it stands at most m times, and one time fewer here
+  -- v lies strictly inside the domain, so it stands at most m times, and one time fewer here
   fewer-count : occurrences v (withoutOne v ts) < m
   unfolding occurrences
   fewer-count =
