@@ -3,3 +3,5 @@ pub mod ShareLaws
 pub mod EntryLaws
 pub mod EndLaws
 pub mod PartLaws
+pub mod MovedLaws
+pub mod AxisLaws
