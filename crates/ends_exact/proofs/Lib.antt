@@ -5,3 +5,4 @@ pub mod EndLaws
 pub mod PartLaws
 pub mod MovedLaws
 pub mod AxisLaws
+pub mod ClampLaws

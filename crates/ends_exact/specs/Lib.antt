@@ -1,1 +1,2 @@
 -- What is promised of clamped and unclamped ends.
+pub mod Clamping
