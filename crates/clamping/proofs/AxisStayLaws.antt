@@ -45,8 +45,8 @@ row-stays : (end : End) (m : ℕ) → ((l : ℕ) → l ≤ m → end .outside l 
 unfolding endRow
 row-stays end m none zero k = times-one (end .point k)
 row-stays end m none (suc r) k =
-    mean-stays (end .point k) (end .inside (k + 1)) (end .outside (m - k - r - 1)) (endRow end m r k) (endRow end m r (k + 1))
-    (none (m - k - r - 1) (omega arith)) (row-stays end m none r k)
+    mean-stays (end .point k) _ _ (endRow end m r k) (endRow end m r (k + 1))
+    (none _ (omega arith)) (row-stays end m none r k)
 
 -- the numbers of one axis are whole, and are the old points
 pub record AxisStays (m : ℕ) (ts : List ℕ) (ps : List ℤ) : Type 0 where

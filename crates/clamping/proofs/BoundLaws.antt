@@ -2,7 +2,7 @@
 use mathlib.Core.List.{List}
 use mathlib.Core.Path.{_≡_, ap, _∙_}
 use Prim.Native.Nat.{ℕ, zero, suc, _+_, _-_, _*_, _≤_, _<_}
-use native.Mathlib.Nat.{mul-assoc, mul-comm, mul-left-comm, add-mul, mul-add, mul-le-mul, mul-le-mul-left, mul-pos}
+use native.Mathlib.Nat.{mul-assoc, mul-comm, mul-left-comm, add-mul, mul-add, mul-le-mul, mul-le-mul-left, mul-pos, mul-one}
 use native.Mathlib.Omega.{arith}
 use lib.IntN.{ℤ, pos, natAbs, _*ℤ_}
 use lib.ListN.{length, getD}
@@ -37,7 +37,7 @@ module _ (end : End) (m : ℕ) where
   unfolding endRow
   row-bounded range zero k = omega (arith, range k)
   row-bounded range (suc r) k =
-      mean-bounded coordinateMost (end .inside (k + 1)) (end .outside (m - k - r - 1)) (endRow end m r k) (endRow end m r (k + 1))
+      mean-bounded coordinateMost _ _ (endRow end m r k) (endRow end m r (k + 1))
       (row-bounded range r k) (row-bounded range r (k + 1))
 
   -- entry k of row r is worked out with the r knots inside behind the k-th; where these lie apart from the end, no lower number is zero
@@ -54,11 +54,11 @@ module _ (end : End) (m : ℕ) where
   module _ (w : ℕ) (near : (j l : ℕ) → end .inside j + end .outside l ≤ w) where
     pub first-row-most : (k : ℕ) → endRow end m 1 k .lower ≤ w
     unfolding endRow mean
-    first-row-most k = omega (arith, near (k + 1) (m - k - 0 - 1))
+    first-row-most k = rw (mul-one (_ + _)) (near _ _)
 
     pub second-row-most : (k : ℕ) → endRow end m 2 k .lower ≤ w * (w * w)
     unfolding endRow mean
-    second-row-most k = mul-le-mul (near (k + 1) (m - k - 1 - 1)) (mul-le-mul (first-row-most k) (first-row-most (k + 1)))
+    second-row-most k = mul-le-mul (near _ _) (mul-le-mul (first-row-most k) (first-row-most (k + 1)))
 
 -- the ends of a curve whose knots are at most `most` are such
 module _ (ts : List ℕ) (ps : List ℤ) (most : ℕ) (high : (a : ℕ) → getD ts a 0 ≤ most) where

@@ -42,13 +42,8 @@ pub record PartFacts (m : ℕ) (c d : Lists) (first count : ℕ) : Type 0 where
   pub inner : (v : ℕ) → getD (c .knots) m 0 < v → v < getD (c .knots) (length (c .xs)) 0 → occurrences v (d .knots) ≡ occurrences v (c .knots)
   pub checked : Checked m (d .knots) (d .xs) (d .ys)
 
-module _ (m : ℕ) (c : Lists) (h : Checked m (c .knots) (c .xs) (c .ys)) (i j : ℕ) (e : EndSpans m c i j) where
-  abbrev first : ℕ
-  first = i - m
-
-  abbrev count : ℕ
-  count = j + 1 - (i - m)
-
+module _ (m : ℕ) (c : Lists) (h : Checked m (c .knots) (c .xs) (c .ys)) (i j : ℕ) (e : EndSpans m c i j)
+    (first count : ℕ) (place : first + m ≡ i) (past : first + count ≡ j + 1) where
   abbrev cut : Lists
   cut = lists (part first (count + m + 1) (c .knots)) (part first count (c .xs)) (part first count (c .ys))
 
@@ -163,7 +158,9 @@ module _ (m : ℕ) (c : Lists) (h : Checked m (c .knots) (c .xs) (c .ys)) (i j :
       }
 
 pub part-of-checked : (m : ℕ) (c : Lists) → Checked m (c .knots) (c .xs) (c .ys) → PartFacts m c (carryingPart m c) (carriersFrom m c) (carriers m c)
-part-of-checked m c h = part-facts m c h (firstSpan m c) (lastSpan m c) (end-spans m c h)
+part-of-checked m c h =
+    let e = end-spans m c h in
+    part-facts m c h (firstSpan m c) (lastSpan m c) e (carriersFrom m c) (carriers m c) (omega (arith, e .from)) (omega (arith, e .from, e .order))
 
 pub part-of-passes : (m : ℕ) (c : Lists) → Passes m (c .knots) (c .xs) (c .ys) → PartFacts m c (carryingPart m c) (carriersFrom m c) (carriers m c)
 part-of-passes m c h = part-of-checked m c (checked-of-passes m (c .knots) (c .xs) (c .ys) h)

@@ -12,7 +12,7 @@ use Rattle.checked.specs.Checked.{Checked, Clamped}
 use Rattle.checked.proofs.CheckedLaws.{checked-of-passes}
 use Rattle.insertion.specs.Insertion.{entries}
 use Rattle.insertion.proofs.OrderLaws.{either}
-use Rattle.clamping.specs.Clamping.{firstSpan, lastSpan, part, carryingPart, clampedKnot, clampedNumber, allWhole, clampedPart, clamped, clampsWhole}
+use Rattle.clamping.specs.Clamping.{firstSpan, lastSpan, carriersFrom, carriers, part, carryingPart, clampedKnot, clampedNumber, allWhole, clampedPart, clamped, clampsWhole}
 use Rattle.clamping.specs.Sentences.{ClampedComesBack}
 use Rattle.clamping.proofs.CountLaws.{counted-all, counted-run}
 use Rattle.clamping.proofs.EndSpanLaws.{EndSpans, end-spans}
@@ -31,9 +31,18 @@ knots-stay m ts count ends enough long =
     (λ a. either k count (λ b. c .between k a b) (λ b. c .lasts k b inside ∙ sym (ends .lasts k b (omega arith))))
     (λ a. c .firsts k a ∙ sym (ends .firsts k a)))
 
--- all entries of a list
+-- all entries of a list, and of a curve
 part-all : {A : Type 0} (first count : ℕ) (l : List A) → first ≡ 0 → count ≡ length l → part first count l ≡ l
 part-all first count l none all = rw none (take-all count l (omega arith))
+
+part-stays : (m : ℕ) (c : Lists) → Sizes m (c .knots) (c .xs) (c .ys) → (first count : ℕ) → first ≡ 0 → count ≡ length (c .xs)
+    → lists (part first (count + m + 1) (c .knots)) (part first count (c .xs)) (part first count (c .ys)) ≡ c
+part-stays m c z first count none all =
+    rw (
+      part-all first (count + m + 1) (c .knots) none (omega (arith, z .knots)),
+      part-all first count (c .xs) none all,
+      part-all first count (c .ys) none (omega (arith, z .as-many)),
+    )
 
 -- the first span is t_m's own and the last t_{n+1}'s: else an end value would stand more than m+1 times
 module _ (m : ℕ) (c : Lists) (h : Checked m (c .knots) (c .xs) (c .ys)) (ends : Clamped m (c .knots) (length (c .xs))) (i j : ℕ) (e : EndSpans m c i j) where
@@ -54,32 +63,27 @@ module _ (m : ℕ) (c : Lists) (h : Checked m (c .knots) (c .xs) (c .ys)) (ends 
       (λ k l u. either k n (λ a. e .stops k (omega arith) (omega arith)) (λ a. ends .lasts k a (omega (arith, e .to, h .sizes .knots)))) in
       omega (arith, run, all, h .outer v, e .to, h .sizes .knots)
 
-  part-stays : lists (part (i - m) (j + 1 - (i - m) + m + 1) (c .knots)) (part (i - m) (j + 1 - (i - m)) (c .xs)) (part (i - m) (j + 1 - (i - m)) (c .ys)) ≡ c
-  part-stays =
-      let z = h .sizes in
-      let none : i - m ≡ 0 = omega (arith, first-is) in
-      let count : j + 1 - (i - m) ≡ length (c .xs) = omega (arith, first-is, last-is) in
-      rw (
-        part-all (i - m) (j + 1 - (i - m) + m + 1) (c .knots) none (omega (arith, count, z .knots)),
-        part-all (i - m) (j + 1 - (i - m)) (c .xs) none count,
-        part-all (i - m) (j + 1 - (i - m)) (c .ys) none (omega (arith, count, z .as-many)),
-      )
-
 -- the whole curve
 module _ (m : ℕ) (c : Lists) (h : Checked m (c .knots) (c .xs) (c .ys)) (ends : Clamped m (c .knots) (length (c .xs))) where
   abbrev spans : EndSpans m c (firstSpan m c) (lastSpan m c)
   spans = end-spans m c h
 
+  first : firstSpan m c ≡ m
+  first = first-is m c h ends (firstSpan m c) (lastSpan m c) spans
+
+  last : lastSpan m c + 1 ≡ length (c .xs)
+  last = last-is m c h ends (firstSpan m c) (lastSpan m c) spans
+
   first-wide : getD (c .knots) m 0 < getD (c .knots) (m + 1) 0
-  first-wide = rw (first-is m c h ends (firstSpan m c) (lastSpan m c) spans) at (spans .first-wide)
+  first-wide = rw first at (spans .first-wide)
 
   last-wide : getD (c .knots) (length (c .xs) - 1) 0 < getD (c .knots) (length (c .xs)) 0
   last-wide =
-      let last : lastSpan m c ≡ length (c .xs) - 1 = omega (arith, last-is m c h ends (firstSpan m c) (lastSpan m c) spans) in
-      rw last at (spans .last-wide)
+      let place : lastSpan m c ≡ length (c .xs) - 1 = omega (arith, last) in
+      rw place at (spans .last-wide)
 
   same-part : carryingPart m c ≡ c
-  same-part = part-stays m c h ends (firstSpan m c) (lastSpan m c) spans
+  same-part = part-stays m c (h .sizes) (carriersFrom m c) (carriers m c) (omega (arith, first)) (omega (arith, first, last))
 
   abbrev z : Sizes m (c .knots) (c .xs) (c .ys)
   z = h .sizes
