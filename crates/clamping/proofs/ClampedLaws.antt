@@ -35,7 +35,8 @@ module _ (m : ℕ) (ts : List ℕ) (ps : List ℤ) where
   pub points-at : (j : ℕ) → j < length ps → getD (clampedPoints m ts ps) j (pos 0) ≡ wholeOf (clampedNumber m ts ps j)
   points-at j l = entries-at (λ j. wholeOf (clampedNumber m ts ps j)) (length ps) j (pos 0) l
 
-  points-grid : ((a : ℕ) → a < length ps → OnGrid (getD ps a (pos 0))) → (a : ℕ) → a < length (clampedPoints m ts ps) → OnGrid (getD (clampedPoints m ts ps) a (pos 0))
+  points-grid : ((a : ℕ) → a < length ps → OnGrid (getD ps a (pos 0))) → (a : ℕ) → a < length (clampedPoints m ts ps)
+      → OnGrid (getD (clampedPoints m ts ps) a (pos 0))
   points-grid grid a l =
       let z = wholeOf (clampedNumber m ts ps a) in
       rw (points-at a (omega (arith, points-length))) (onGrid-facts z (grid-of-size z (whole-within m ts ps (range-of-grid ps grid) a)))

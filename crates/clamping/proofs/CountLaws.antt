@@ -17,7 +17,8 @@ counted v f i zero = 0
 counted v f i (suc count) = let rest = counted v f (suc i) count in cond (eqb (f i) v) (suc rest) rest
 
 -- entries that are the same, one by one
-pub counted-same : (v : ℕ) (f g : ℕ → ℕ) (i j count : ℕ) → ((k : ℕ) → k < count → f (i + k) ≡ g (j + k)) → counted v f i count ≡ counted v g j count
+pub counted-same : (v : ℕ) (f g : ℕ → ℕ) (i j count : ℕ) → ((k : ℕ) → k < count → f (i + k) ≡ g (j + k))
+    → counted v f i count ≡ counted v g j count
 unfolding counted
 counted-same v f g i j zero same = refl
 counted-same v f g i j (suc count) same =
@@ -81,7 +82,8 @@ module _ (v : ℕ) (ts : List ℕ) (a b : ℕ) (within : a + b ≤ length ts) wh
   pub counted-run : counted v entry a b ≤ occurrences v ts
   counted-run = omega (arith, three-runs)
 
-  pub counted-middle : ((k : ℕ) → k < a → getD ts k 0 ≡ v → ⊥) → ((k : ℕ) → a + b ≤ k → k < length ts → getD ts k 0 ≡ v → ⊥) → occurrences v ts ≡ counted v entry a b
+  pub counted-middle : ((k : ℕ) → k < a → getD ts k 0 ≡ v → ⊥)
+      → ((k : ℕ) → a + b ≤ k → k < length ts → getD ts k 0 ≡ v → ⊥) → occurrences v ts ≡ counted v entry a b
   counted-middle before after =
       omega (
         arith,

@@ -51,7 +51,8 @@ module _ (f : ℕ → Share) where
       (one-fails (allWhole f count) (isWhole (f count)) h)
 
   -- the test fails exactly where some number is not whole
-  pub all-judged : (count : ℕ) → Judged (allWhole f count) ((j : ℕ) → j < count → isWhole (f j) ≡ true) ((j : ℕ) × (j < count) × ((z : ℤ) → IsThe z (f j) → ⊥))
+  pub all-judged : (count : ℕ) → Judged (allWhole f count) ((j : ℕ) → j < count → isWhole (f j) ≡ true)
+      ((j : ℕ) × (j < count) × ((z : ℤ) → IsThe z (f j) → ⊥))
   all-judged count =
       record {
         passing = whole-each count;
