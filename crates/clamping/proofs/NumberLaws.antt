@@ -29,10 +29,10 @@ by-end m ts ps P j start finish = go (leb (j + 2) m) refl
 
 module _ (m : ℕ) (ts : List ℕ) (ps : List ℤ) (enough : m + 1 ≤ length ps) (long : length ts ≡ length ps + m + 1) (rising : NeverFall ts) where
   -- the knots inside lie apart from the ends
-  start-apart : getD ts m 0 < getD ts (m + 1) 0 → (k : ℕ) → 0 < k → k ≤ m → 0 < startOf m ts ps .inside k
+  pub start-apart : getD ts m 0 < getD ts (m + 1) 0 → (k : ℕ) → 0 < k → k ≤ m → 0 < startOf m ts ps .inside k
   start-apart wide k l u = omega (arith, rising (m + 1) (m + k) (omega arith) (omega arith))
 
-  finish-apart : getD ts (length ps - 1) 0 < getD ts (length ps) 0 → (k : ℕ) → 0 < k → 0 < finishOf ts ps .inside k
+  pub finish-apart : getD ts (length ps - 1) 0 < getD ts (length ps) 0 → (k : ℕ) → 0 < k → 0 < finishOf ts ps .inside k
   finish-apart wide k l = omega (arith, rising (length ps - k) (length ps - 1) (omega arith) (omega arith))
 
   module _ (first-wide : getD ts m 0 < getD ts (m + 1) 0) (last-wide : getD ts (length ps - 1) 0 < getD ts (length ps) 0) where
