@@ -1,1 +1,2 @@
 -- Laws of unclamping.
+mod Controls
