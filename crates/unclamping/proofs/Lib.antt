@@ -1,2 +1,5 @@
 -- Laws of unclamping.
+pub mod EntryLaws
+pub mod AxisLaws
+pub mod WidthLaws
 mod Controls
