@@ -35,16 +35,16 @@ three-accepted : unclampNumber 3 (lists (0 ∷ 0 ∷ 0 ∷ 0 ∷ 1 ∷ 3 ∷ 3 �
     (lists (0 ∷ 0 ∷ 0 ∷ 0 ∷ 0 ∷ 0 ∷ 0 ∷ 0 ∷ 0 ∷ []) (pos 0 ∷ pos 0 ∷ pos 0 ∷ pos 0 ∷ pos 0 ∷ []) (pos 0 ∷ pos 0 ∷ pos 0 ∷ pos 0 ∷ pos 0 ∷ []))
     ≡ 0
 unfolding
-  divides enough degreeOk pointCountOk knotCountOk risesFrom knotOrderOk endsOk occurrences repeatsMost repeatsWithin repeatsOk onGrid allOnGrid rangeOk checkedThen
-  entries allWhole endClamped openKnot knotsFit openSecond openFirst openNumber openPoints unclamped opensOn opens unclampNumber
+    divides enough degreeOk pointCountOk knotCountOk risesFrom knotOrderOk endsOk occurrences repeatsMost repeatsWithin repeatsOk onGrid allOnGrid rangeOk checkedThen
+    entries allWhole endClamped openKnot knotsFit openSecond openFirst openNumber openPoints unclamped opensOn opens unclampNumber
 three-accepted = refl
 
 -- of degree 3 over the same knots, where the last point but one would be 1 + 2·1/3; nothing is lent, but 23 comes first
 third : unclampNumber 3 (lists (0 ∷ 0 ∷ 0 ∷ 0 ∷ 1 ∷ 3 ∷ 3 ∷ 3 ∷ 3 ∷ []) (pos 0 ∷ pos 0 ∷ pos 0 ∷ pos 1 ∷ pos 6 ∷ []) (pos 0 ∷ pos 0 ∷ pos 0 ∷ pos 0 ∷ pos 0 ∷ [])) (lists [] [] [])
     ≡ 23
 unfolding
-  divides enough degreeOk pointCountOk knotCountOk risesFrom knotOrderOk endsOk occurrences repeatsMost repeatsWithin repeatsOk onGrid allOnGrid rangeOk checkedThen
-  entries allWhole endClamped openKnot knotsFit openSecond openFirst openNumber openPoints unclamped opensOn opens unclampNumber
+    divides enough degreeOk pointCountOk knotCountOk risesFrom knotOrderOk endsOk occurrences repeatsMost repeatsWithin repeatsOk onGrid allOnGrid rangeOk checkedThen
+    entries allWhole endClamped openKnot knotsFit openSecond openFirst openNumber openPoints unclamped opensOn opens unclampNumber
 third = refl
 
 -- an end that is not clamped

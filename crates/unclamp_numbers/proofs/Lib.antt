@@ -1,0 +1,3 @@
+-- Laws of the numbers of a right end.
+pub mod SizeLaws
+pub mod EndLaws

@@ -1,0 +1,2 @@
+-- What the numbers of a right end ask.
+pub mod Standing
