@@ -6,3 +6,5 @@ pub mod PartLaws
 pub mod MovedLaws
 pub mod AxisLaws
 pub mod ClampLaws
+pub mod SolvedLaws
+pub mod OpenLaws

@@ -57,7 +57,7 @@ common-line d e p q a b x y z ax by dz =
     ∷ []) (ax, (by, (dz, tt))) refl
 
 -- a quotient times its divisor
-div-back : (a b : ℚ) → (b ≡ rationalOperations .zero → ⊥) → times (div rationalOperations a b) b ≡ a
+pub div-back : (a b : ℚ) → (b ≡ rationalOperations .zero → ⊥) → times (div rationalOperations a b) b ≡ a
 div-back a b apart =
     linear-combination (fieldRing rational) (a ∷ b ∷ rationalOperations .inv b ∷ []) (var 0 ⊗ var 2 ⊗ var 1) (var 0)
     (fact (var 0) (var 1 ⊗ var 2) (lit 1) ∷ []) (rational .laws .mul-inv b apart, tt) refl
