@@ -23,7 +23,7 @@ use Rattle.ends_exact.proofs.ShareLaws.{value, row-value}
 use Rattle.ends_exact.proofs.EntryLaws.{rows-same}
 
 -- the difference of two natural numbers that does not fall below zero
-difference-class : (a b : ℕ) → b ≤ a → class (wholeN (a - b)) ≡ sub rationalOperations (class (wholeN a)) (class (wholeN b))
+pub difference-class : (a b : ℕ) → b ≤ a → class (wholeN (a - b)) ≡ sub rationalOperations (class (wholeN a)) (class (wholeN b))
 difference-class a b h = ap (λ (z : ℤ). class (whole z)) (sym (pos-sub a b h)) ∙ whole-difference (pos a) (pos b)
 
 -- knots ts and coordinates ps of n + 1 points; the first span and the last are not empty

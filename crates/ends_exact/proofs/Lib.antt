@@ -8,3 +8,4 @@ pub mod AxisLaws
 pub mod ClampLaws
 pub mod SolvedLaws
 pub mod OpenLaws
+pub mod UnclampAxisLaws

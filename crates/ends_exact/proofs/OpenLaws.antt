@@ -32,7 +32,7 @@ ones-class (suc (suc n)) =
     ∙ natural-sum (suc n) 1 ∙ ap (λ (x : ℚ). plus x (rationalOperations .one)) (ones-class (suc n))
 
 -- a whole number's own value
-whole-value : (z : ℤ) → value (Share.whole z) ≡ class (whole z)
+pub whole-value : (z : ℤ) → value (Share.whole z) ≡ class (whole z)
 whole-value z = div-unique rational _ _ _ (apart-from-zero 1 (omega arith)) (sym (rational .laws .mul-one (class (whole z))))
 
 module _ (end : End) (two : 0 < end .inside 2) where
@@ -99,7 +99,7 @@ module _ (end : End) (two : 0 < end .inside 2) where
       ∷ []) (ones-class 6, (ones-class 3, (ones-class 2, (back-second, tt)))) refl)
 
   -- the new numbers Q over knots that lie as far inside as the old ones and go on outside in steps of h
-  module _ (one : 0 < end .inside 1) (d e Q : ℕ → ℚ) (d1 : d 1 ≡ h) (d2 : d 2 ≡ w) (e1 : e 1 ≡ h) (e2 : e 2 ≡ twice rational h) where
+  module _ (one : 0 < end .inside 1) (d e Q : ℕ → ℚ) (d1 : d 1 ≡ h) (d2 : d 2 ≡ w) (e1 : e 1 ≡ h) where
     some : h ≡ rationalOperations .zero → ⊥
     some = apart-from-zero (end .inside 1) one
 
@@ -123,10 +123,10 @@ module _ (end : End) (two : 0 < end .inside 2) where
     unfolding Rows.endRow
     row-second = ap₂ (λ x y. Rows.mean rationalOperations x (Q 1) y (Q 2)) d2 e1
 
-    row-first : Rows.endNumber rationalOperations d e Q 3 0
+    row-first : e 2 ≡ twice rational h → Rows.endNumber rationalOperations d e Q 3 0
         ≡ Rows.mean rationalOperations h (Rows.mean rationalOperations h (Q 0) (twice rational h) (Q 1)) h (Rows.endNumber rationalOperations d e Q 3 1)
     unfolding Rows.endRow
-    row-first =
+    row-first e2 =
         ap₂ (λ x y. Rows.mean rationalOperations x (Rows.mean rationalOperations (d 1) (Q 0) (e 2) (Q 1)) y (Rows.mean rationalOperations (d 2) (Q 1) (e 1) (Q 2))) d1 e1
         ∙ ap₂ (λ x y. Rows.mean rationalOperations h (Rows.mean rationalOperations x (Q 0) y (Q 1)) h (Rows.mean rationalOperations (d 2) (Q 1) (e 1) (Q 2))) d1 e2
 
@@ -150,8 +150,8 @@ module _ (end : End) (two : 0 < end .inside 2) where
         (q 0 (omega arith) ∙ ap value (last-of-two end 2 0 refl refl) ∙ value-two ∙ ap (λ (x : ℚ). sub rationalOperations (twice rational (P 0)) x) (sym (old-open 2 1 (omega arith)) ∙ sym (q 1 (omega arith))))
     gives-two q (suc k) l = old-row 2 (suc k) (omega arith) ∙ q (suc k) l ∙ old-open 2 (suc k) (omega arith)
 
-    gives-three : Opened 3 → Given 3
-    gives-three q = by
+    gives-three : e 2 ≡ twice rational h → Opened 3 → Given 3
+    gives-three e2 q = by
       where
         second : Rows.endNumber rationalOperations d e Q 3 1 ≡ P 1
         second =
@@ -163,7 +163,7 @@ module _ (end : End) (two : 0 < end .inside 2) where
 
         by : Given 3
         by zero l =
-            row-first
+            row-first e2
             ∙ ap (Rows.mean rationalOperations h (Rows.mean rationalOperations h (Q 0) (twice rational h) (Q 1)) h) second
             ∙ third-from rational h some double triple (Q 0) (Q 1) (P 0) (P 1)
             (q 0 (omega arith) ∙ ap value (last-of-three end 3 0 refl refl) ∙ value-first
@@ -181,8 +181,8 @@ module _ (end : End) (two : 0 < end .inside 2) where
         ∙ ap value (sym (last-of-two end 2 0 refl refl))
     says-two g (suc k) l = sym (old-row 2 (suc k) (omega arith)) ∙ g (suc k) l ∙ sym (old-open 2 (suc k) (omega arith))
 
-    says-three : Given 3 → Opened 3
-    says-three g = by
+    says-three : e 2 ≡ twice rational h → Given 3 → Opened 3
+    says-three e2 g = by
       where
         second : Q 1 ≡ value (openSecond end)
         second =
@@ -196,7 +196,7 @@ module _ (end : End) (two : 0 < end .inside 2) where
         by : Opened 3
         by zero l =
             third-says rational h some double triple (Q 0) (Q 1) (P 0) (P 1)
-            (sym (ap (Rows.mean rationalOperations h (Rows.mean rationalOperations h (Q 0) (twice rational h) (Q 1)) h) (g 1 (omega arith))) ∙ sym row-first ∙ g 0 (omega arith))
+            (sym (ap (Rows.mean rationalOperations h (Rows.mean rationalOperations h (Q 0) (twice rational h) (Q 1)) h) (g 1 (omega arith))) ∙ sym (row-first e2) ∙ g 0 (omega arith))
             ∙ ap (λ (x : ℚ). sub rationalOperations (sub rationalOperations (thrice rational (twice rational (P 0))) (thrice rational (P 1))) (twice rational x)) second
             ∙ sym value-first
             ∙ ap value (sym (last-of-three end 3 0 refl refl))
@@ -223,8 +223,12 @@ module _ (end : End) (two : 0 < end .inside 2) where
           ]
         ]
 
-    pub opened-gives : (m : ℕ) → 1 ≤ m → m ≤ 3 → Opened m → Given m
-    opened-gives = by-degree (λ m. Opened m → Given m) gives-one gives-two gives-three
+    -- of degree 1 the second knot outside is not read
+    abbrev Second : ℕ → Type 0
+    Second m = 2 ≤ m → e 2 ≡ twice rational h
 
-    pub given-says : (m : ℕ) → 1 ≤ m → m ≤ 3 → Given m → Opened m
-    given-says = by-degree (λ m. Given m → Opened m) says-one says-two says-three
+    pub opened-gives : (m : ℕ) → 1 ≤ m → m ≤ 3 → Second m → Opened m → Given m
+    opened-gives = by-degree (λ m. Second m → Opened m → Given m) (λ e2. gives-one) (λ e2. gives-two) (λ e2. gives-three (e2 (omega arith)))
+
+    pub given-says : (m : ℕ) → 1 ≤ m → m ≤ 3 → Second m → Given m → Opened m
+    given-says = by-degree (λ m. Second m → Given m → Opened m) (λ e2. says-one) (λ e2. says-two) (λ e2. says-three (e2 (omega arith)))
