@@ -9,3 +9,5 @@ pub mod ClampLaws
 pub mod SolvedLaws
 pub mod OpenLaws
 pub mod UnclampAxisLaws
+pub mod OpenKnotLaws
+pub mod UnclampLaws

@@ -92,7 +92,7 @@ module _ (m n : ℕ) (ts us : List ℕ) (o : OpenKnots m n ts us) (ps qs : List 
   inside-is : (k : ℕ) → finishOf ts ps .inside k ≡ getD ts (n + 1) 0 - getD ts (n + 1 - k) 0
   inside-is k = ap₂ (λ (a b : ℕ). a - b) (ap (λ (j : ℕ). getD ts j 0) size) (ap (λ (j : ℕ). getD ts (j - k) 0) size)
 
-  inside-some : (k : ℕ) → 1 ≤ k → k ≤ n + 1 → 0 < finishOf ts ps .inside k
+  pub inside-some : (k : ℕ) → 1 ≤ k → k ≤ n + 1 → 0 < finishOf ts ps .inside k
   inside-some k least most = omega (arith, inside-is k, o .some, o .rises (n + 1 - k) n (omega arith) (omega (arith, o .size)))
 
   -- the new knots inside and outside, as the rows read them

@@ -1,2 +1,3 @@
 -- What is promised of clamped and unclamped ends.
 pub mod Clamping
+pub mod Unclamping
