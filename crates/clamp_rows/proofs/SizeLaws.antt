@@ -22,7 +22,7 @@ pub two-read : (a b : ℕ) → a ≤ knotMost → b ≤ knotMost → toZ w64 (a 
 two-read a b h k = toZ-pos w64 (a * b) (omega (arith, two-within a b h k))
 
 -- ... and what is above the line of a number
-pub product-within : (a b : ℕ) (z : ℤ) → a ≤ knotMost → b ≤ knotMost → natAbs z ≤ coordinateMost * knotMost
+product-within : (a b : ℕ) (z : ℤ) → a ≤ knotMost → b ≤ knotMost → natAbs z ≤ coordinateMost * knotMost
     → natAbs (pos (a * b) *ℤ z) ≤ knotMost * knotMost * (coordinateMost * knotMost)
 product-within a b z h k l = rw (natAbs-mul (pos (a * b)) z) (mul-le-mul (two-within a b h k) l)
 

@@ -1,0 +1,6 @@
+-- Laws of the clamping call.
+mod NumberLaws
+mod WholeLaws
+mod KnotLaws
+mod CutLaws
+pub mod AnswerLaws

@@ -1,0 +1,2 @@
+-- The contract of clamping both ends: its answer and its lent lists.
+pub mod Answer
