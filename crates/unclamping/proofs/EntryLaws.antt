@@ -1,10 +1,10 @@
 -- The unclamped curve, entry by entry.
 use mathlib.Core.Bool.{true, false, _&&_, and-false}
 use mathlib.Core.List.{List}
-use mathlib.Core.Path.{_≡_, refl, ap, _∙_}
-use Prim.Native.Nat.{ℕ, suc, _+_, _-_, _*_, _%_, _≤_, _<_}
+use mathlib.Core.Path.{_≡_, refl, sym, ap, _∙_}
+use Prim.Native.Nat.{ℕ, zero, suc, _+_, _-_, _*_, _%_, _≤_, _<_}
 use native.Mathlib.Decide.{ℕ-discrete}
-use native.Mathlib.Nat.{div-one, mod-one}
+use native.Mathlib.Nat.{zero-mul, add-zero, div-one, mod-one}
 use native.Mathlib.Omega.{arith}
 use lib.Dec.{eqb}
 use lib.IntN.{ℤ, pos, negsuc, negℤ, natAbs, _-ℤ_, _*ℤ_}
@@ -18,15 +18,23 @@ use Rattle.clamping.specs.EndRows.{whole, End, finishOf}
 use Rattle.clamping.specs.Clamping.{isWhole, wholeOf}
 use Rattle.unclamping.specs.Unclamping.{openKnot, openSecond, openFirst, openNumber, openNumbers, openPoints, unclamped}
 
--- the knots up to t_{n+1}, and those behind it
-module _ (ts : List ℕ) (count j : ℕ) where
-  pub knot-old : j ≤ count → openKnot ts count j ≡ getD ts j 0
+-- the knots up to t_{n+1}, and those from it on
+module _ (ts : List ℕ) (count : ℕ) where
+  pub knot-old : (j : ℕ) → j ≤ count → openKnot ts count j ≡ getD ts j 0
   unfolding openKnot
-  knot-old h = rw (le-leb j count h)
+  knot-old j h = rw (le-leb j count h)
 
-  pub knot-new : count < j → openKnot ts count j ≡ getD ts count 0 + (j - count) * (getD ts count 0 - getD ts (count - 1) 0)
+  knot-new : (j : ℕ) → count < j → openKnot ts count j ≡ getD ts count 0 + (j - count) * (getD ts count 0 - getD ts (count - 1) 0)
   unfolding openKnot
-  knot-new h = rw (lt-leb j count h)
+  knot-new j h = rw (lt-leb j count h)
+
+  pub knot-behind : (k : ℕ) → openKnot ts count (count + k) ≡ getD ts count 0 + k * (getD ts count 0 - getD ts (count - 1) 0)
+  knot-behind zero =
+      let here : count + 0 ≡ count = omega arith in
+      rw here (knot-old count (omega arith) ∙ rw (zero-mul (getD ts count 0 - getD ts (count - 1) 0)) (sym (add-zero (getD ts count 0))))
+  knot-behind (suc k) =
+      let back : count + suc k - count ≡ suc k = omega arith in
+      rw back at (knot-new (count + suc k) (omega arith))
 
 -- two tests of which one fails
 not-both : (a b c d : ℕ) → (a ≡ b → c ≡ d → ⊥) → (eqb a b && eqb c d) ≡ false

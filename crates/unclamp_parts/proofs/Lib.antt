@@ -1,0 +1,3 @@
+-- Laws of the parts of unclamping.
+pub mod KnotLaws
+pub mod PointLaws

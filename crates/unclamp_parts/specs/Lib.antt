@@ -1,0 +1,2 @@
+-- What the parts of unclamping ask and tell.
+pub mod Standing
