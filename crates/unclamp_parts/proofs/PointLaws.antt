@@ -46,10 +46,6 @@ module _ (m : ℕ) (ts : List ℕ) (ps : List ℤ) (s : Ending m ts ps) where
   pub points-accept : allOnGrid ps ≡ true → ((k : ℕ) → k + 1 < m → fits (openNumber (finishOf ts ps) m k) ≡ true) → true ≡ opensOn m ts ps
   points-accept old each = sym (axis-opens m ts ps (grid-each ps old) (λ k i. fits-both (openNumber (finishOf ts ps) m k) (each k i)))
 
-  -- a point that is written in its place
-  pub point-at : (j : ℕ) → j < length ps → getD (openPoints m ts ps) j (pos 0) ≡ wholeOf (openNumber (finishOf ts ps) m (length ps - 1 - j))
-  point-at j inside = openPoints-at m ts ps j inside
-
   -- the points in front are copied
   pub points-stored : (before list : List ℤ) → length ps ≤ length before → list ≡ over (take (length before) (take (length ps + 1 - m) ps)) before
       → Stored (openPoints m ts ps) before list (length ps + 1 - m)

@@ -1,8 +1,8 @@
 -- One axis opens exactly where its last m - 1 points are whole and on the grid: the others are as before.
-use mathlib.Core.Bool.{true, false, _&&_, true≢false}
+use mathlib.Core.Bool.{true, false, true≢false}
 use mathlib.Core.List.{List}
 use mathlib.Core.Logic.{_⊎_, inl, inr, ⊎-elim}
-use mathlib.Core.Path.{_≡_, refl, sym, ap, _∙_}
+use mathlib.Core.Path.{_≡_, refl, sym, _∙_}
 use Prim.Native.Nat.{ℕ, zero, suc, _+_, _-_, _≤_, _<_}
 use native.Mathlib.Omega.{arith}
 use lib.IntN.{ℤ, pos}
@@ -15,7 +15,7 @@ use Rattle.checked.proofs.TestLaws.{one-fails, passes-from, every-passes, some-
 use Rattle.checked.proofs.GridLaws.{onGrid-judged}
 use Rattle.insertion.proofs.OrderLaws.{either}
 use Rattle.clamping.specs.declared.Share.{Share}
-use Rattle.clamping.specs.EndRows.{whole, finishOf}
+use Rattle.clamping.specs.EndRows.{finishOf}
 use Rattle.clamping.specs.Clamping.{isWhole, wholeOf, allWhole}
 use Rattle.unclamping.specs.Unclamping.{openNumber, openNumbers, openPoints, opensOn}
 use Rattle.unclamping.proofs.EntryLaws.{whole-one, whole-is, openPoints-length, openPoints-at, point-old}

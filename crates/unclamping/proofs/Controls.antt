@@ -1,10 +1,10 @@
 -- Closed cases of unclamping, worked by hand.
 use mathlib.Core.Bool.{true, false}
-use mathlib.Core.List.{List, [], _∷_}
+use mathlib.Core.List.{[], _∷_}
 use mathlib.Core.Path.{_≡_, refl}
 use lib.IntN.{pos, negsuc}
 use Rattle.signed.specs.Division.{divides}
-use Rattle.curve.specs.Lists.{Lists, lists}
+use Rattle.curve.specs.Lists.{lists}
 use Rattle.curve.specs.HandingOver.{enough}
 use Rattle.grid.specs.Rows.{degreeOk, pointCountOk, knotCountOk, risesFrom, knotOrderOk, endsOk, occurrences, repeatsMost, repeatsWithin, repeatsOk, onGrid, allOnGrid, rangeOk}
 use Rattle.grid.specs.Check.{checkedThen}

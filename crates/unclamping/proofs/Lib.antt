@@ -2,4 +2,5 @@
 pub mod EntryLaws
 pub mod AxisLaws
 pub mod WidthLaws
+pub mod JudgedLaws
 mod Controls

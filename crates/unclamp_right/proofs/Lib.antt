@@ -1,0 +1,3 @@
+-- Laws of the unclamping call.
+pub mod StandingLaws
+pub mod AnswerLaws

@@ -1,0 +1,2 @@
+-- The contract of unclamping the right end: its answer and its lent lists.
+pub mod Answer
