@@ -11,3 +11,4 @@ pub mod OpenLaws
 pub mod UnclampAxisLaws
 pub mod OpenKnotLaws
 pub mod UnclampLaws
+pub mod UnclampedLaws

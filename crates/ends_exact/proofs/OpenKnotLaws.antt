@@ -1,9 +1,9 @@
 -- The knots of an unclamped curve: up to t_{n+1} the old ones, so that spans are the same, and behind it steps of the last span.
 use mathlib.Core.List.{List}
-use mathlib.Core.Path.{_≡_, refl, ap, _∙_}
+use mathlib.Core.Path.{_≡_, refl, sym, ap, _∙_}
 use Prim.Native.Nat.{ℕ, zero, suc, _+_, _*_, _-_, _≤_, _<_}
 use native.Mathlib.Decide.{decLe}
-use native.Mathlib.Nat.{mul-le-mul-right, zero-mul}
+use native.Mathlib.Nat.{mul-le-mul-right}
 use native.Mathlib.Omega.{arith}
 use lib.ListN.{length, getD}
 use Rattle.curve.specs.Lists.{Lists, NeverFall}
@@ -14,7 +14,7 @@ use Rattle.span.specs.Span.{spanOf}
 use Rattle.insertion.specs.Insertion.{entries}
 use Rattle.insertion.proofs.EntryLaws.{entries-length, entries-at}
 use Rattle.unclamping.specs.Unclamping.{openKnot}
-use Rattle.unclamping.proofs.EntryLaws.{knot-old, knot-new}
+use Rattle.unclamping.proofs.EntryLaws.{knot-old, knot-behind}
 use Rattle.unclamping.proofs.WidthLaws.{last-span}
 use Rattle.ends_exact.proofs.UnclampAxisLaws.{OpenKnots}
 
@@ -53,8 +53,14 @@ module _ (m : ℕ) (c : Lists) (passes : Passes m (c .knots) (c .xs) (c .ys)) (a
   old-at : (j : ℕ) → j ≤ count → getD us j 0 ≡ getD ts j 0
   old-at j h = entries-at (openKnot ts count) (length ts) j 0 (omega (arith, size)) ∙ knot-old ts count j h
 
-  new-at : (j : ℕ) → count < j → j < length ts → getD us j 0 ≡ getD ts count 0 + (j - count) * (getD ts count 0 - getD ts n 0)
-  new-at j h l = entries-at (openKnot ts count) (length ts) j 0 l ∙ knot-new ts count j h
+  new-at : (k : ℕ) → k ≤ m → getD us (count + k) 0 ≡ getD ts count 0 + k * (getD ts count 0 - getD ts n 0)
+  new-at k h = entries-at (openKnot ts count) (length ts) (count + k) 0 (omega (arith, size)) ∙ knot-behind ts count k
+
+  -- the same by index
+  behind : (j : ℕ) → count < j → j < length ts → getD us j 0 ≡ getD ts count 0 + (j - count) * (getD ts count 0 - getD ts n 0)
+  behind j h l =
+      let place : count + (j - count) ≡ j = omega arith in
+      ap (λ (i : ℕ). getD us i 0) (sym place) ∙ new-at (j - count) (omega (arith, size))
 
   new-rises : NeverFall us
   new-rises a b h inside =
@@ -62,10 +68,10 @@ module _ (m : ℕ) (c : Lists) (passes : Passes m (c .knots) (c .xs) (c .ys)) (a
       elim (decLe b count) [
         | yes low ↦ omega (arith, old-at a (omega arith), old-at b low, facts .rising a b h within)
         | no high ↦ elim (decLe a count) [
-          | yes low ↦ omega (arith, old-at a low, new-at b (omega arith) within, facts .rising a count low (omega (arith, size)))
+          | yes low ↦ omega (arith, old-at a low, behind b (omega arith) within, facts .rising a count low (omega (arith, size)))
           | no far ↦
               let steps : (a - count) * (getD ts count 0 - getD ts n 0) ≤ (b - count) * (getD ts count 0 - getD ts n 0) = mul-le-mul-right (getD ts count 0 - getD ts n 0) (omega arith) in
-              omega (arith, new-at a (omega arith) (omega arith), new-at b (omega arith) within)
+              omega (arith, behind a (omega arith) (omega arith), behind b (omega arith) within)
         ]
       ]
 
@@ -81,18 +87,5 @@ module _ (m : ℕ) (c : Lists) (passes : Passes m (c .knots) (c .xs) (c .ys)) (a
     some = rw (← next) some;
     lasts = λ k h. rw (← next) (omega (arith, agree, facts .rising count (count + k) (omega arith) (omega (arith, size)), facts .rising (count + k) (count + m) (omega arith) (omega (arith, size))));
     old = λ j h. old-at j (omega (arith, next));
-    new = λ k h.
-        rw (← next)
-        (elim (decLe k 0) [
-          | yes none ↦
-              let zero-is : k ≡ 0 = omega arith in
-              let place : count + k ≡ count = omega arith in
-              let here = old-at (count + k) (omega arith) in
-              let steps : k * (getD ts count 0 - getD ts n 0) ≡ 0 = rw zero-is (zero-mul (getD ts count 0 - getD ts n 0)) in
-              let there : getD ts (count + k) 0 ≡ getD ts count 0 = ap (λ (j : ℕ). getD ts j 0) place in
-              omega (arith, here, there, steps)
-          | no more ↦
-              let back : count + k - count ≡ k = omega arith in
-              new-at (count + k) (omega arith) (omega (arith, size)) ∙ rw back refl
-        ]);
+    new = λ k h. rw (← next) (new-at k h);
   }
