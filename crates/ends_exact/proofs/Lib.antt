@@ -12,3 +12,4 @@ pub mod UnclampAxisLaws
 pub mod OpenKnotLaws
 pub mod UnclampLaws
 pub mod UnclampedLaws
+pub mod BackLaws
