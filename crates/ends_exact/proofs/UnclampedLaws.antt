@@ -13,12 +13,16 @@ use Rattle.grid.specs.Limits.{knotMost}
 use Rattle.grid.specs.Check.{Passes}
 use Rattle.checked.specs.Checked.{Checked}
 use Rattle.checked.proofs.CheckedLaws.{checked-of-passes}
-use Rattle.insertion.specs.Insertion.{entries}
+use Rattle.insertion.specs.Insertion.{entries, pointAt}
 use Rattle.insertion.proofs.EntryLaws.{entries-length, entries-at}
-use Rattle.unclamping.specs.Unclamping.{endClamped, openKnot, knotsFit, unclamped, opens}
+use Rattle.unclamping.specs.Unclamping.{endClamped, openKnot, knotsFit, openPoints, unclamped, opens}
+use Rattle.clamping.specs.Clamping.{wholeOf}
+use Rattle.unclamping.proofs.EntryLaws.{knot-old, whole-is, openPoints-length, openPoints-at, point-old, unclamped-knot-at, unclamped-xs, unclamped-ys}
+use Rattle.unclamping.proofs.ResultLaws.{unclamped-passes}
 use Rattle.unclamping.proofs.JudgedLaws.{opens-parts, accepted-of-number}
 use Rattle.knots_exact.specs.SameCurve.{SameOnAxis, SameCurve}
-use Rattle.ends_exact.specs.Unclamping.{UnclampKeepsCurve, UnclampedPolygon}
+use Rattle.ends_exact.specs.Unclamping.{UnclampKeepsCurve, UnclampedPolygon, UnclampExactly, UnclampedClampsBack}
+use Rattle.ends_exact.proofs.BackLaws.{clamps-back}
 use Rattle.ends_exact.proofs.UnclampLaws.{opened-same, axis-open, points-these}
 
 pub opens-keeps : (m : ℕ) (c : Lists) → Passes m (c .knots) (c .xs) (c .ys) → opens m c ≡ true → SameCurve m c (unclamped m c)
@@ -83,3 +87,37 @@ module _ (m : ℕ) (c d : Lists) (passes : Passes m (c .knots) (c .xs) (c .ys)) 
       lists-same knots-are
       (points-these m c passes agree (c .xs) refl (d .xs) many (on (c .xs) (d .xs) (p .same .x)) (p .x) (parts .x))
       (points-these m c passes agree (c .ys) (old .sizes .as-many) (d .ys) many-y (on (c .ys) (d .ys) (p .same .y)) (p .y) (parts .y))
+
+-- the unclamped curve is such a polygon
+the-polygon : (m : ℕ) (c : Lists) → Passes m (c .knots) (c .xs) (c .ys) → opens m c ≡ true → UnclampedPolygon m c (unclamped m c)
+the-polygon m c passes h =
+    let parts = opens-parts m c h in
+    let k = checked-of-passes m (c .knots) (c .xs) (c .ys) passes in
+    let z = k .sizes in
+    let old : (ps : List ℤ) → length ps ≡ length (c .xs) → (j : ℕ) → j + m < length (c .xs) → pointAt (openPoints m (c .knots) ps) j ≡ pointAt ps j =
+    λ ps long j l.
+    openPoints-at m (c .knots) ps j (omega (arith, long)) ∙ ap wholeOf (point-old m (c .knots) ps j (omega (arith, long)) (omega (arith, long))) ∙ whole-is (pointAt ps j) in
+    record {
+      agree = λ i l.
+          omega (
+            arith,
+            parts .end,
+            k .rising (length (c .xs)) (length (c .xs) + i) (omega arith) (omega (arith, z .knots)),
+            k .rising (length (c .xs) + i) (length (c .xs) + m) (omega arith) (omega (arith, z .knots)),
+          );
+      passes = unclamped-passes m c passes h;
+      knots = refl;
+      x = λ j l. rw (unclamped-xs m c) (old (c .xs) refl j l);
+      y = λ j l. rw (unclamped-ys m c) (old (c .ys) (z .as-many) j l);
+      same = opens-keeps m c passes h;
+    }
+
+pub unclamp-exactly : UnclampExactly
+unclamp-exactly m c passes =
+    ((λ h. (unclamped m c, the-polygon m c passes h), λ e. polygon-opens m c (e .0) passes (e .1)), λ d p. polygon-is m c d passes p)
+
+pub unclamped-clamps-back : UnclampedClampsBack
+unclamped-clamps-back m c passes h ends =
+    let z = checked-of-passes m (c .knots) (c .xs) (c .ys) passes .sizes in
+    clamps-back m c (unclamped m c) passes ends (unclamped-passes m c passes h) (ap length (unclamped-xs m c) ∙ openPoints-length m (c .knots) (c .xs))
+    (λ j low high. unclamped-knot-at m c j (omega (arith, z .knots)) ∙ knot-old (c .knots) (length (c .xs)) j high) (opens-keeps m c passes h)
