@@ -23,6 +23,7 @@ use Rattle.insertion.specs.Insertion.{entries}
 use Rattle.insertion.proofs.EntryLaws.{entries-length}
 use Rattle.clamping.specs.Clamping.{carriersFrom, carriers, carryingPart, clampedKnot, clampedNumber, isWhole, wholeOf, allWhole, clampedPoints, clamped, clampsWhole, clampThen, clampNumber}
 use Rattle.clamping.proofs.PartLaws.{PartFacts, part-of-passes}
+use Rattle.clamping.proofs.WholeLaws.{whole-of-each}
 use Rattle.clamping.proofs.ClampedLaws.{clamped-passes, points-at, points-length}
 use Rattle.knots_exact.specs.SameCurve.{SameOnAxis, SameCurve}
 use Rattle.same_polygon.specs.SamePolygon.{CarriesSpan}
@@ -31,7 +32,6 @@ use Rattle.same_polygon.proofs.PolygonLaws.{carries}
 use Rattle.ends_exact.specs.Clamping.{ClampKeepsCurve, ClampedPolygon, ClampExactly}
 use Rattle.ends_exact.proofs.ShareLaws.{value, value-of-whole}
 use Rattle.ends_exact.proofs.EndLaws.{WideEnds, number-lower}
-use Rattle.ends_exact.proofs.PartLaws.{each-whole, whole-each}
 use Rattle.ends_exact.proofs.MovedLaws.{Axis, PartOf}
 use Rattle.ends_exact.proofs.AxisLaws.{clamped-same, carrier-fixed, carrier-whole}
 
@@ -126,7 +126,7 @@ module _ (m : ℕ) (c : Lists) (passes : Passes m (c .knots) (c .xs) (c .ys)) wh
 
       -- row 11 does not apply on this axis, and they are the clamped points
       all-whole : allWhole (clampedNumber m (d .knots) rs) (length rs) ≡ true
-      all-whole = whole-each (clampedNumber m (d .knots) rs) (length rs) (λ j l. number-whole j (rw (← size) l))
+      all-whole = whole-of-each (clampedNumber m (d .knots) rs) (length rs) (λ j l. number-whole j (rw (← size) l))
 
       points-are-these : qs ≡ clampedPoints m (d .knots) rs
       points-are-these =

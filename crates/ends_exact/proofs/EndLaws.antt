@@ -18,7 +18,7 @@ use Rattle.end_rows.specs.BothEnds.{bothKnots, bothPoints}
 use Rattle.curve.specs.Lists.{NeverFall}
 use Rattle.clamping.specs.EndRows.{endNumber, startOf, finishOf}
 use Rattle.clamping.specs.Clamping.{clampedKnot, clampedNumber}
-use Rattle.clamping.proofs.BoundLaws.{row-lower}
+use Rattle.clamping.proofs.NumberLaws as Number
 use Rattle.ends_exact.proofs.ShareLaws.{value, row-value}
 use Rattle.ends_exact.proofs.EntryLaws.{rows-same}
 
@@ -37,6 +37,18 @@ pub record WideEnds (m : ℕ) (ts : List ℕ) (ps : List ℤ) (n : ℕ) : Type 0
   pub final : getD ts n 0 < getD ts (n + 1) 0
 
 module _ (m : ℕ) (ts : List ℕ) (ps : List ℤ) (n : ℕ) (w : WideEnds m ts ps n) where
+  -- the same facts by the number of points
+  many : m + 1 ≤ length ps
+  many = omega (arith, w .points, w .enough)
+
+  long : length ts ≡ length ps + m + 1
+  long = w .size ∙ ap (λ (k : ℕ). k + m + 1) (sym (w .points))
+
+  final : getD ts (length ps - 1) 0 < getD ts (length ps) 0
+  final =
+      let before : length ps - 1 ≡ n = omega (arith, w .points) in
+      rw (before, w .points) (w .final)
+
   -- the knots
   pub knot-class : (j : ℕ) → class (wholeN (clampedKnot m ts (n + 1) j)) ≡ bothKnots rationalOperations (rationalKnot ts) m n j
   unfolding clampedKnot bothKnots
@@ -50,12 +62,9 @@ module _ (m : ℕ) (ts : List ℕ) (ps : List ℤ) (n : ℕ) (w : WideEnds m ts 
       ]
 
   -- a number at the start ..
-  start-apart : (j : ℕ) → 0 < j → j ≤ m → 0 < startOf m ts ps .inside j
-  start-apart j some most = omega (arith, w .first, w .rises (m + 1) (m + j) (omega arith) (omega (arith, w .size, w .enough)))
-
   start-value : (k : ℕ) → value (endNumber (startOf m ts ps) m k) ≡ Rows.startNumber rationalOperations (rationalKnot ts) (rationalCoordinate ps) m k
   start-value k =
-      row-value (startOf m ts ps) m (m - 1 - k) k (λ j a b. start-apart j (omega arith) (omega arith))
+      row-value (startOf m ts ps) m (m - 1 - k) k (λ j a b. Number.start-apart m ts ps many long (w .rises) (w .first) j (omega arith) (omega arith))
       ∙ rows-same rationalOperations _ _ (rationalCoordinate ps) (Rows.startInside rationalOperations (rationalKnot ts) m) (Rows.startOutside rationalOperations (rationalKnot ts) m)
       (rationalCoordinate ps) m (w .degree)
       (λ j a. difference-class (getD ts m 0) (getD ts (m - j) 0) (w .rises (m - j) m (omega arith) (omega (arith, w .size, w .enough))))
@@ -75,14 +84,11 @@ module _ (m : ℕ) (ts : List ℕ) (ps : List ℤ) (n : ℕ) (w : WideEnds m ts 
   outside-is : (j : ℕ) → finishOf ts ps .outside j ≡ getD ts (n + 1 + j) 0 - getD ts (n + 1) 0
   outside-is j = ap₂ (λ (a b : ℕ). a - b) (ap (λ (k : ℕ). getD ts (k + j) 0) (w .points)) last-knot
 
-  finish-apart : (j : ℕ) → 0 < j → j ≤ m → 0 < finishOf ts ps .inside j
-  finish-apart j some most = omega (arith, inside-is j, w .final, w .rises (n + 1 - j) n (omega arith) (omega (arith, w .size)))
-
   finish-value : (k : ℕ)
       → value (endNumber (finishOf ts ps) m k)
       ≡ Rows.endNumber rationalOperations (Rows.endInside rationalOperations (rationalKnot ts) n) (Rows.endOutside rationalOperations (rationalKnot ts) n) (λ j. rationalCoordinate ps (n - j)) m k
   finish-value k =
-      row-value (finishOf ts ps) m (m - 1 - k) k (λ j a b. finish-apart j (omega arith) (omega arith))
+      row-value (finishOf ts ps) m (m - 1 - k) k (λ j a b. Number.finish-apart m ts ps many long (w .rises) final j (omega arith))
       ∙ rows-same rationalOperations _ _ (λ j. class (whole (finishOf ts ps .point j))) (Rows.endInside rationalOperations (rationalKnot ts) n) (Rows.endOutside rationalOperations (rationalKnot ts) n)
       (λ j. rationalCoordinate ps (n - j)) m (w .degree)
       (λ j a. ap (λ (x : ℕ). class (wholeN x)) (outside-is j)
@@ -102,12 +108,4 @@ module _ (m : ℕ) (ts : List ℕ) (ps : List ℤ) (n : ℕ) (w : WideEnds m ts 
       ]
 
   pub number-lower : (j : ℕ) → 0 < clampedNumber m ts ps j .lower
-  unfolding clampedNumber
-  number-lower j =
-      let place : length ps - 1 - j ≡ n - j = omega (arith, w .points) in
-      elim (decLe (j + 2) m) [
-        | yes a ↦ rw (le-leb (j + 2) m a) (row-lower (startOf m ts ps) m (m - 1 - j) j (λ k a b. start-apart k (omega arith) (omega arith)))
-        | no a ↦
-            rw (lt-leb (j + 2) m (omega arith), place)
-            (row-lower (finishOf ts ps) m (m - 1 - (n - j)) (n - j) (λ k a b. finish-apart k (omega arith) (omega arith)))
-      ]
+  number-lower = Number.number-lower m ts ps many long (w .rises) (w .first) final

@@ -13,3 +13,4 @@ pub mod OpenKnotLaws
 pub mod UnclampLaws
 pub mod UnclampedLaws
 pub mod BackLaws
+mod Controls

@@ -1,9 +1,8 @@
 -- A curve whose first and last span are not empty, clamped: the triangle on every span stays, and a polygon that keeps it is the clamped one.
-use mathlib.Core.Bool.{true, and-eq-true-iff}
+use mathlib.Core.Bool.{true}
 use mathlib.Core.List.{List}
 use mathlib.Core.Path.{_≡_, sym, ap, _∙_}
-use Prim.Native.Nat.{ℕ, zero, suc, _+_, _-_, _≤_, _<_}
-use native.Mathlib.Decide.{ℕ-discrete}
+use Prim.Native.Nat.{ℕ, _+_, _≤_, _<_}
 use native.Mathlib.Omega.{arith}
 use lib.IntN.{ℤ, pos}
 use lib.ListN.{length, getD}
@@ -24,26 +23,10 @@ use Rattle.end_rows.proofs.BothEndLaws.{both-ends-keep}
 use Rattle.end_rows.proofs.StepCurve.{span-stays}
 use Rattle.insertion.specs.Insertion.{entries}
 use Rattle.insertion.proofs.EntryLaws.{entries-length, entries-at}
-use Rattle.clamping.specs.declared.Share.{Share}
 use Rattle.clamping.specs.Clamping.{clampedKnot, clampedNumber, isWhole, wholeOf, allWhole, clampedPoints}
+use Rattle.clamping.proofs.WholeLaws.{whole-each}
 use Rattle.ends_exact.proofs.ShareLaws.{value, value-of-whole, whole-of-value}
 use Rattle.ends_exact.proofs.EndLaws.{WideEnds, knot-class, number-value, number-lower}
-
--- all numbers are whole, one by one
-pub each-whole : (f : ℕ → Share) (count : ℕ) → allWhole f count ≡ true → (j : ℕ) → j < count → isWhole (f j) ≡ true
-unfolding allWhole
-each-whole f zero h j l = absurd (omega arith)
-each-whole f (suc count) h j l =
-    let both = and-eq-true-iff (allWhole f count) (isWhole (f count)) .0 h in
-    elim (ℕ-discrete j count) [
-      | yes e ↦ rw e (both .1)
-      | no n ↦ each-whole f count (both .0) j (omega arith)
-    ]
-
-pub whole-each : (f : ℕ → Share) (count : ℕ) → ((j : ℕ) → j < count → isWhole (f j) ≡ true) → allWhole f count ≡ true
-unfolding allWhole
-whole-each f zero each = λ i. true
-whole-each f (suc count) each = rw (whole-each f count (λ j l. each j (omega arith)), each count (omega arith))
 
 module _ (m : ℕ) (ts : List ℕ) (ps : List ℤ) (n : ℕ) (w : WideEnds m ts ps n) (degree : m ≤ 3) where
   abbrev us : List ℕ
@@ -82,7 +65,7 @@ module _ (m : ℕ) (ts : List ℕ) (ps : List ℤ) (n : ℕ) (w : WideEnds m ts 
   module _ (all : allWhole (clampedNumber m ts ps) (n + 1) ≡ true) where
     pub points-are : (j : ℕ) → j ≤ n → class (whole (wholeOf (clampedNumber m ts ps j))) ≡ newPoints j
     points-are j l =
-        value-of-whole (clampedNumber m ts ps j) (number-lower m ts ps n w j) (each-whole (clampedNumber m ts ps) (n + 1) all j (omega arith))
+        value-of-whole (clampedNumber m ts ps j) (number-lower m ts ps n w j) (whole-each (clampedNumber m ts ps) (n + 1) all j (omega arith))
         ∙ number-value m ts ps n w j
 
     pub clamped-keeps : (i : ℕ) → m ≤ i → i ≤ n → getD ts i 0 < getD ts (i + 1) 0 → (t : ℚ)

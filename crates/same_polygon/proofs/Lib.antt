@@ -3,3 +3,4 @@ pub mod ParameterLaws
 pub mod AgreeLaws
 pub mod PointLaws
 pub mod PolygonLaws
+mod Controls
