@@ -1,16 +1,14 @@
 -- What is worked out from the knots and points at the end is what the definition says.
 use mathlib.Core.List.{List}
-use mathlib.Core.Path.{_≡_, ap}
+use mathlib.Core.Path.{_≡_}
 use Prim.Native.Nat.{ℕ, _+_, _-_, _≤_, _<_}
-use native.Mathlib.Decide.{ℕ-discrete}
 use native.Mathlib.Omega.{arith}
 use lib.IntN.{ℤ, pos, _-ℤ_, _*ℤ_}
 use lib.ListN.{length, getD}
 use Rattle.curve.specs.Lists.{NeverFall}
-use Rattle.clamping.specs.declared.Share.{Share}
 use Rattle.clamping.specs.EndRows.{finishOf}
 use Rattle.unclamping.specs.Unclamping.{openSecond, openFirst, openNumber}
-use Rattle.unclamping.proofs.EntryLaws.{last-of-two, last-of-three, second-of-three}
+use Rattle.unclamping.proofs.EntryLaws.{last-of-two}
 use Rattle.unclamp_numbers.specs.Standing.{Ending}
 
 -- two spans next to each other
@@ -52,19 +50,7 @@ module _ (ts : List ℕ) (ps : List ℤ) (some : 3 ≤ length ps) where
       let first : length ps - 1 - 1 ≡ length ps - 2 = omega arith in
       rw (last-of-two (finishOf ts ps) m k degree (omega arith), last, first) e
 
--- below the line: 1 of degree 2, the last two spans of degree 3
-module _ (m : ℕ) (ts : List ℕ) (ps : List ℤ) (s : Ending m ts ps) (k : ℕ) (inside : k + 1 < m) where
-  pub below-of-two : m ≡ 2 → openNumber (finishOf ts ps) m k .lower ≡ 1
-  below-of-two degree = ap (λ (a : Share). a .lower) (last-of-two (finishOf ts ps) m k degree (omega arith))
-
-  pub below-of-three : m ≡ 3 → openNumber (finishOf ts ps) m k .lower ≡ getD ts (length ps) 0 - getD ts (length ps - 2) 0
-  unfolding openFirst openSecond
-  below-of-three degree =
-      elim (ℕ-discrete k 0) [
-        | yes e ↦ ap (λ (a : Share). a .lower) (last-of-three (finishOf ts ps) m k degree e)
-        | no n ↦ ap (λ (a : Share). a .lower) (second-of-three (finishOf ts ps) m k degree (omega arith))
-      ]
-
-  -- it is not zero
-  pub two-spans-some : 0 < getD ts (length ps) 0 - getD ts (length ps - 2) 0
-  two-spans-some = omega (arith, s .last, s .rises (length ps - 2) (length ps - 1) (omega arith) (omega (arith, s .count)))
+-- the last two spans are not empty
+pub two-spans-some : (m : ℕ) (ts : List ℕ) (ps : List ℤ) → Ending m ts ps → 2 ≤ m → 0 < getD ts (length ps) 0 - getD ts (length ps - 2) 0
+two-spans-some m ts ps s degree =
+    omega (arith, s .last, s .enough, s .rises (length ps - 2) (length ps - 1) (omega (arith, s .enough)) (omega (arith, s .count)))

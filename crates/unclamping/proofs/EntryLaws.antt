@@ -14,6 +14,7 @@ use Rattle.signed.specs.Division.{divides}
 use Rattle.curve.specs.Lists.{Lists}
 use Rattle.insertion.specs.Insertion.{pointAt}
 use Rattle.insertion.proofs.EntryLaws.{entries-length, entries-at}
+use Rattle.clamping.specs.declared.Share.{Share}
 use Rattle.clamping.specs.EndRows.{whole, End, finishOf}
 use Rattle.clamping.specs.Clamping.{isWhole, wholeOf}
 use Rattle.unclamping.specs.Unclamping.{openKnot, openSecond, openFirst, openNumber, openNumbers, openPoints, unclamped}
@@ -61,6 +62,19 @@ module _ (end : End) (m k : ℕ) where
   pub number-old : m ≤ k + 1 → openNumber end m k ≡ whole (end .point k)
   unfolding openNumber
   number-old h = rw (not-both m 2 k 0 (λ a b. omega arith), not-both m 3 k 0 (λ a b. omega arith), not-both m 3 k 1 (λ a b. omega arith))
+
+-- what stands below the line of the last m - 1
+module _ (end : End) (m k : ℕ) (inside : k + 1 < m) where
+  pub lower-of-two : m ≡ 2 → openNumber end m k .lower ≡ 1
+  lower-of-two degree = ap (λ (a : Share). a .lower) (last-of-two end m k degree (omega arith))
+
+  pub lower-of-three : m ≡ 3 → openNumber end m k .lower ≡ end .inside 2
+  unfolding openFirst openSecond
+  lower-of-three degree =
+      elim (ℕ-discrete k 0) [
+        | yes e ↦ ap (λ (a : Share). a .lower) (last-of-three end m k degree e)
+        | no n ↦ ap (λ (a : Share). a .lower) (second-of-three end m k degree (omega arith))
+      ]
 
 -- z / 1 is whole, and is z
 pub whole-one : (z : ℤ) → isWhole (whole z) ≡ true

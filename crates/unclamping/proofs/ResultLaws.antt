@@ -1,5 +1,5 @@
 -- An accepted unclamping hands back a curve that passes the check again, with as many knots and points.
-use mathlib.Core.Bool.{true, _&&_}
+use mathlib.Core.Bool.{true}
 use mathlib.Core.List.{List}
 use mathlib.Core.Path.{_≡_, sym, _∙_}
 use Prim.Native.Nat.{ℕ}

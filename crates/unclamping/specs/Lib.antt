@@ -1,2 +1,3 @@
--- Unclamping a curve at its right end: what it gives and when it is refused.
+-- Unclamping a curve at its right end: what it gives, when it is refused, and the same told over all entries.
 pub mod Unclamping
+pub mod Sentences
