@@ -4,3 +4,6 @@ pub mod StepLaws
 pub mod MeasureLaws
 pub mod WriteLaws
 pub mod OutcomeLaws
+pub mod CopyLaws
+mod EndLaws
+mod WorkLaws

@@ -14,14 +14,14 @@ use Rattle.pieces.specs.declared.Handed.{Handed}
 use Rattle.pieces.specs.Walk.{cutUpTo, AtSpan, Hands, refuses, inner, last}
 use Rattle.path_data.specs.Text.{pathText, partText}
 use Rattle.path_data.proofs.TextLaws.{entries-text}
-use Rattle.svg_out.specs.Svg.{svgText}
+use Rattle.svg_out.specs.Svg.{piecesText}
 use Rattle.svg_out.specs.Measure.{Measures}
 use Rattle.svg_out.proofs.StepLaws.{piecesAt, entries-same}
 
 -- at a span, and behind the last
 pub data Measuring (m : ℕ) (c : Lists) (walk : Walk) (so : ℕ) : Type 0 where
   going : (at : AtSpan m c walk) → so ≡ length (pathText m (entries (piecesAt m c walk at) (walk .index))) → Measuring m c walk so
-  done : walk .span ≡ length (c .xs) → ((next : ℕ) → insertableEachThen m (cuts m c) c next ≡ next) → so ≡ length (svgText m c) → Measuring m c walk so
+  done : walk .span ≡ length (c .xs) → ((next : ℕ) → insertableEachThen m (cuts m c) c next ≡ next) → so ≡ length (piecesText m c) → Measuring m c walk so
 
 module _ (m : ℕ) (c : Lists) (walk : Walk) (so : ℕ) where
   -- at the start

@@ -22,7 +22,7 @@ use Rattle.pieces.specs.Walk.{AtSpan, Hands, refuses, inner, last}
 use Rattle.pieces.proofs.WalkLaws.{left-of-walk}
 use Rattle.path_data.specs.Text.{moveText, segmentText, pathText, partText}
 use Rattle.path_data.proofs.TextLaws.{partText-first, partText-later, entries-text, entries-within}
-use Rattle.svg_out.specs.Svg.{svgText}
+use Rattle.svg_out.specs.Svg.{piecesText}
 
 -- the text of the first k pieces
 abbrev textOf : ℕ → Lists → ℕ → List ℕ
@@ -31,9 +31,9 @@ textOf m c k = pathText m (entries (pieceOf m (cut m c)) k)
 -- at a span, and behind the last
 pub data Writing (m : ℕ) (c : Lists) (before out : List ℕ) (walk : Walk) (place : ℕ) : Type 0 where
   going : AtSpan m c walk → Put before 0 (pathText m (entries (pieceOf m (cut m c)) (walk .index))) out place → Writing m c before out walk place
-  done : walk .span ≡ length (c .xs) → Put before 0 (svgText m c) out place → Writing m c before out walk place
+  done : walk .span ≡ length (c .xs) → Put before 0 (piecesText m c) out place → Writing m c before out walk place
 
-module _ (m : ℕ) (c : Lists) (before : List ℕ) (judged : insertableEachThen m (cuts m c) c accepted ≡ accepted) (room : length (svgText m c) ≤ length before) where
+module _ (m : ℕ) (c : Lists) (before : List ℕ) (judged : insertableEachThen m (cuts m c) c accepted ≡ accepted) (room : length (piecesText m c) ≤ length before) where
   pub writing-begins : (walk : Walk) → AtSpan m c walk → walk .index ≡ 0 → Writing m c before before walk 0
   unfolding entries pathText
   writing-begins walk at first = going at (subst (λ n. Put before 0 (textOf m c n) before 0) (sym first) (put-none before 0))
@@ -117,11 +117,11 @@ module _ (m : ℕ) (c : Lists) (before : List ℕ) (judged : insertableEachThen 
           by (last l) = omega (arith, l .ends, h)
 
     -- at the end
-    pub write-ends : Writing m c before out walk place → (walk .span < length (c .xs) → ⊥) → out ≡ over (svgText m c) before
+    pub write-ends : Writing m c before out walk place → (walk .span < length (c .xs) → ⊥) → out ≡ over (piecesText m c) before
     write-ends (going at p) h = absurd (h (at .window .inside))
     write-ends (done end p) h =
-        let front : 0 + length (svgText m c) ≡ length (svgText m c) = omega arith in
-        p .holds ∙ ap (λ (n : ℕ). svgText m c ++ drop n before) front
+        let front : 0 + length (piecesText m c) ≡ length (piecesText m c) = omega arith in
+        p .holds ∙ ap (λ (n : ℕ). piecesText m c ++ drop n before) front
 
     pub write-length : Writing m c before out walk place → (walk .span < length (c .xs) → ⊥) → length out ≡ length before
     write-length (going at p) h = absurd (h (at .window .inside))

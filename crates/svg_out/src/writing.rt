@@ -10,7 +10,7 @@ ghost use Rattle.checked.specs.Checked.{Clamped};
 ghost use Rattle.cutting.specs.Cutting.{cuts, insertableEachThen};
 ghost use Rattle.digits.specs.Put.{Put};
 ghost use Rattle.path_data.specs.Text.{partText};
-ghost use Rattle.svg_out.specs.Svg.{svgText};
+ghost use Rattle.svg_out.specs.Svg.{piecesText};
 
 // Puts piece k; the move to its start stands before the first.
 fn put_part(out: &mut [u8], at: usize, m: usize, k: usize, piece: Piece) -> usize
@@ -30,8 +30,8 @@ pub(crate) fn put_path(m: usize, knots: &[u16], xs: &[i32], ys: &[i32], out: &mu
     requires { ⌜ Passes m (now knots) (now xs) (now ys) ⌝ }
     requires { ⌜ Clamped m (now knots) (length (now xs)) ⌝ }
     requires { ⌜ insertableEachThen m (cuts m (lists (now knots) (now xs) (now ys))) (lists (now knots) (now xs) (now ys)) 0 ≡ 0 ⌝ }
-    requires { ⌜ length (svgText m (lists (now knots) (now xs) (now ys))) ≤ length (now out) ⌝ }
-    ensures result { λ _. ⌜ now (out .exit) ≡ over (svgText m (lists (now (knots .entry)) (now (xs .entry)) (now (ys .entry)))) (now (out .entry)) ⌝ }
+    requires { ⌜ length (piecesText m (lists (now knots) (now xs) (now ys))) ≤ length (now out) ⌝ }
+    ensures result { λ _. ⌜ now (out .exit) ≡ over (piecesText m (lists (now (knots .entry)) (now (xs .entry)) (now (ys .entry)))) (now (out .entry)) ⌝ }
 {
     let mut walk = pieces::start(m, xs, ys);
     let mut place = 0;
