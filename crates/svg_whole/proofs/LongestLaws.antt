@@ -21,13 +21,15 @@ use Rattle.checked.proofs.RisingLaws.{order-judged}
 use Rattle.checked.proofs.TestLaws.{passes-from}
 use Rattle.insertion.specs.Insertion.{pointAt, entries}
 use Rattle.insertion.proofs.EntryLaws.{entries-length, entries-at}
+use Rattle.clamping.proofs.StayLaws.{clamped-comes-back}
 use Rattle.cutting.specs.Cutting.{cuts, insertedEach, cut, cutNumber}
 use Rattle.cutting.specs.Pieces.{pieceOf, pieceCount, pieces}
 use Rattle.cutting.proofs.FourLaws.{four-used}
 use Rattle.cut_whole.proofs.SentenceLaws.{cuts-counted, cut-number-is, cut-sizes}
 use Rattle.path_data.proofs.LongestLaws.{lowest, lowest-on-grid, Farthest, farthest-path}
-use Rattle.svg_out.specs.Svg.{svgText}
+use Rattle.svg_out.specs.Svg.{piecesText, svgText, drawNumber}
 use Rattle.svg_whole.specs.Sentences.{SvgMostReached}
+use Rattle.svg_whole.proofs.DrawLaws.{draw-own}
 
 -- a list in which nothing stands
 none-stand : (l : List ℕ) → ((v : ℕ) → occurrences v l ≡ 0) → l ≡ []
@@ -156,12 +158,19 @@ module _ (p : ℕ) (few : p + 2 ≤ pointsMost) where
         onY = λ a l. four-used 1 farPoints (k * 1) a l (omega arith) ∙ point-is k a h l;
       }
 
-  far-length : length (svgText 1 farCurve) ≡ (1 + pairBytesMost) + suc p * (2 + pairBytesMost)
+  own-length : length (piecesText 1 farCurve) ≡ (1 + pairBytesMost) + suc p * (2 + pairBytesMost)
   unfolding pieces
-  far-length = rw (count-is, far-uncut) (farthest-path (pieceOf 1 farCurve) p all-farthest)
+  own-length = rw (count-is, far-uncut) (farthest-path (pieceOf 1 farCurve) p all-farthest)
 
-  reached : (m : ℕ) × (c : Lists) × (cutNumber m c ≡ accepted) × Clamped m (c .knots) (length (c .xs)) × (length (svgText m c) ≡ (1 + pairBytesMost) + suc p * (2 + pairBytesMost))
-  reached = (1, farCurve, far-accepted, far-clamped, far-length)
+  -- its ends are clamped, so that it is its own copy
+  far-drawn : drawNumber 1 farCurve ≡ accepted
+  far-drawn = draw-own 1 farCurve far-passes far-clamped accepted ∙ far-accepted
+
+  far-length : length (svgText 1 farCurve) ≡ (1 + pairBytesMost) + suc p * (2 + pairBytesMost)
+  far-length = ap (λ (d : Lists). length (piecesText 1 d)) (clamped-comes-back 1 farCurve far-passes far-clamped .1) ∙ own-length
+
+  reached : (m : ℕ) × (c : Lists) × (drawNumber m c ≡ accepted) × (length (svgText m c) ≡ (1 + pairBytesMost) + suc p * (2 + pairBytesMost))
+  reached = (1, farCurve, far-drawn, far-length)
 
 pub svg-most-reached : SvgMostReached
 svg-most-reached = reached (pointsMost - 2) (omega arith)

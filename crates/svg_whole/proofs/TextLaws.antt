@@ -1,5 +1,5 @@
--- A curve's pieces are as many as the points of the cut curve allow, at least one, and on the grid: so its path data is of the grammar and within
--- the longest.
+-- The pieces of a curve with clamped ends are as many as the points of the cut curve allow, at least one, and on the grid; the clamped copy has such ends: so a
+-- curve's path data is of the grammar and within the longest.
 use mathlib.Core.List.{List, [], _∷_}
 use mathlib.Core.Path.{_≡_, ap}
 use Prim.Native.Nat.{ℕ, _+_, _*_, _≤_, _<_}
@@ -11,6 +11,8 @@ use Rattle.curve.specs.Lists.{Lists}
 use Rattle.grid.proofs.SizeLaws.{sizes-of-passes}
 use Rattle.checked.specs.Checked.{Clamped}
 use Rattle.insertion.proofs.EntryLaws.{entries-length}
+use Rattle.clamping.specs.Clamping.{clamped}
+use Rattle.clamping.proofs.ClampedLaws.{clamped-passes}
 use Rattle.cutting.specs.Cutting.{cut, cutNumber}
 use Rattle.cutting.specs.Pieces.{pieceOf, pieceCount, pieces}
 use Rattle.cutting.specs.declared.Piece.{Piece}
@@ -23,6 +25,7 @@ use Rattle.path_data.proofs.LengthLaws.{entries-on-grid}
 use Rattle.path_data.proofs.LongestLaws.{text-within-most}
 use Rattle.svg_out.proofs.PartLaws.{piece-on-grid}
 use Rattle.svg_whole.specs.Sentences.{SvgIsPathData, SvgWithinMost}
+use Rattle.svg_whole.proofs.DrawLaws.{draw-passes, draw-whole}
 
 module _ (m : ℕ) (c : Lists) (none : cutNumber m c ≡ accepted) where
   abbrev count : ℕ
@@ -60,9 +63,13 @@ of-grammar m (p ∷ ps) h k some = text-is-path-data m p ps h k
 
 pub svg-is-path-data : SvgIsPathData
 svg-is-path-data m c none =
-    let passes = cut-passes m c none .passes in
-    let sizes = sizes-of-passes m (c .knots) (c .xs) (c .ys) passes in
-    of-grammar m (pieces m c) (sizes .degree-least) (sizes .degree-most) (omega (arith, pieces-count m c none, spans-follow m c passes .some))
+    let e = clamped m c in
+    let cuttable = draw-whole m c none .1 in
+    let passes = cut-passes m e cuttable .passes in
+    let sizes = sizes-of-passes m (e .knots) (e .xs) (e .ys) passes in
+    of-grammar m (pieces m e) (sizes .degree-least) (sizes .degree-most) (omega (arith, pieces-count m e cuttable, spans-follow m e passes .some))
 
 pub svg-within-most : SvgWithinMost
-svg-within-most m c none clamped = text-within-most m (pieces m c) (pieces-of-curve m c none clamped)
+svg-within-most m c none =
+    let e = clamped m c in
+    text-within-most m (pieces m e) (pieces-of-curve m e (draw-whole m c none .1) (clamped-passes m c (draw-passes m c none) .clamped-ends))
