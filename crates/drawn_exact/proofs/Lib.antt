@@ -1,0 +1,2 @@
+-- Why the pieces that are drawn are the curve.
+pub mod SpanLaws
