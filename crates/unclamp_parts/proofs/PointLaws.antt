@@ -7,6 +7,7 @@ use native.Mathlib.Omega.{arith}
 use lib.IntN.{ℤ, pos}
 use lib.ListN.{length, getD, take}
 use Rattle.refusal.proofs.JudgingLaws.{both}
+use Rattle.signed.specs.Division.{divides}
 use Rattle.lent.specs.Lent.{over}
 use Rattle.lent.proofs.StoreLaws.{Stored}
 use Rattle.grid.specs.Rows.{onGrid, allOnGrid}
@@ -21,6 +22,10 @@ use Rattle.unclamping.proofs.EntryLaws.{whole-is, openPoints-length, openPoints
 use Rattle.unclamping.proofs.AxisLaws.{Fits, axis-each, axis-opens}
 use Rattle.unclamp_numbers.specs.Standing.{Ending}
 use Rattle.unclamp_parts.specs.Standing.{fits}
+
+-- a number that code has read in two parts
+pub whole-as-read : (a : Share) (upper : ℤ) (lower : ℕ) → upper ≡ a .upper → lower ≡ a .lower → divides (pos lower) upper ≡ isWhole a
+whole-as-read a upper lower e f = rw (e, f)
 
 -- the test of a point, as two facts
 pub fits-both : (a : Share) → fits a ≡ true → Fits a

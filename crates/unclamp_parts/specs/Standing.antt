@@ -13,7 +13,7 @@ use Rattle.clamping.specs.Clamping.{isWhole, wholeOf}
 -- knots of a curve of degree m with `count` points, where m new ones fit
 pub record KnotsEnding (m : ℕ) (ts : List ℕ) (count : ℕ) : Type 0 where
   pub most : m ≤ 3
-  pub some : 1 ≤ count
+  pub enough : 2 ≤ count
   pub places : length ts ≡ count + m + 1
   pub rises : NeverFall ts
   pub fit : getD ts count 0 + m * (getD ts count 0 - getD ts (count - 1) 0) ≤ knotMost

@@ -64,4 +64,4 @@ module _ (m : ℕ) (c : Lists) (passes : Passes m (c .knots) (c .xs) (c .ys)) wh
   knots-ending o =
       let k = checked-of-passes m (c .knots) (c .xs) (c .ys) passes in
       let s = k .sizes in
-      record { most = s .degree-most; some = omega (arith, s .enough); places = s .knots; rises = k .rising; fit = o .fit }
+      record { most = s .degree-most; enough = omega (arith, s .enough, s .degree-least); places = s .knots; rises = k .rising; fit = o .fit }

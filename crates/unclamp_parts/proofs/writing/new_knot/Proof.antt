@@ -23,17 +23,17 @@ span-width-requires c κs = search needs
 mul-result-2 : tie.Need-mul-result-2
 mul-result-2 c = let s = c .before .before .before in
     let a = s .args in
-    omega (arith, knot-fits (a .knots .now) (a .count) (s .pre .0 .some) (a .k) (c .span-width .result) (c .span-width .ensures) (a .m) (s .pre .0) (s .pre .1 .1))
+    omega (arith, knot-fits (a .knots .now) (a .count) (omega (arith, s .pre .0 .enough)) (a .k) (c .span-width .result) (c .span-width .ensures) (a .m) (s .pre .0) (s .pre .1 .1))
 
 add-result : tie.Need-add-result
 add-result c = let s = c .before .before .before in
     let a = s .args in
-    omega (arith, knot-fits (a .knots .now) (a .count) (s .pre .0 .some) (a .k) (c .span-width .result) (c .span-width .ensures) (a .m) (s .pre .0) (s .pre .1 .1))
+    omega (arith, knot-fits (a .knots .now) (a .count) (omega (arith, s .pre .0 .enough)) (a .k) (c .span-width .result) (c .span-width .ensures) (a .m) (s .pre .0) (s .pre .1 .1))
 
 returns : tie.Need-returns
 returns c = let s = c .before .before .before in
     let a = s .args in
-    knot-is (a .knots .now) (a .count) (s .pre .0 .some) (a .k) (c .span-width .result) (c .span-width .ensures)
+    knot-is (a .knots .now) (a .count) (omega (arith, s .pre .0 .enough)) (a .k) (c .span-width .result) (c .span-width .ensures)
 
 pub new-knot-spec : {M : Type 1} → statement M
 new-knot-spec =

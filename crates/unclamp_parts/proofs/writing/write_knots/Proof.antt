@@ -41,7 +41,7 @@ loop-holds c =
     (omega arith, omega arith, stored-anew (knots-stored (a .m) (a .knots .now) (a .count) (a .out .now) (first .last .1 .0) (s .pre .0) (s .pre .1) (first .ensures)))
 
 new-knot-requires : tie.Need-new-knot-requires Inv-loop μ-loop
-new-knot-requires c κs = (c .before .before .before .before .before .before .before .before .before .pre .0, (c .before .loop .inv .0, c .loop-test .taken))
+new-knot-requires c κs = (c .before .before .before .before .before .before .before .before .before .pre .0, (c .before .loop .inv .0, omega (arith, c .loop-test .taken)))
 
 add-out : tie.Need-add-out Inv-loop μ-loop
 add-out c =
