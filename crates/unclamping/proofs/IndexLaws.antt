@@ -86,7 +86,7 @@ module _ (m : ℕ) (ts : List ℕ) (ps : List ℤ) (n : ℕ) (count : length ps 
           let second : length ps - 1 - 1 ≡ n - 1 = omega arith in
           rw (first, second) at
           (last-equation (finishOf ts ps .inside 2) (getD (openPoints m ts ps) (n - 1) (pos 0)) (getD (openPoints m ts ps) n (pos 0)) (openSecond (finishOf ts ps) .upper)
-          (finishOf ts ps .point 0) (finishOf ts ps .point 1) lower-some second-product last-product)
+          (pos 6 *ℤ finishOf ts ps .point 0 -ℤ pos 3 *ℤ finishOf ts ps .point 1) lower-some second-product last-product)
 
   axis-by-index : getD ts (n - 1) 0 ≤ getD ts n 0 → getD ts n 0 < getD ts (n + 1) 0 → OpenAxis m ts ps n (openPoints m ts ps)
   axis-by-index before width =
