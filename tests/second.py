@@ -6,7 +6,7 @@
 
 The scripts tests/after/door_cases.py and text_cases.py run the cases through the proved library and the program, and hold what
 they answer to the same files. SECOND_FAULT=CALL plants one fault in that call here, and the comparison must then fail; a reader, feeding,
-joining, the cutter's radius and path data have more faults, which second_program/fault.py lists. A name that is no fault, or none of the calls compared, is an error.
+joining, the cutter's radius, path data and open ends have more faults, which second_program/fault.py lists. A name that is no fault, or none of the calls compared, is an error.
 """
 
 import sys
@@ -26,10 +26,10 @@ ANSWERS = FOLDER / "answers"
 LEAST_CASES = 2000
 LEAST_OF_CALL = 50
 LEAST_OF_REFUSAL = 20
-MOST_LARGE = 163
+MOST_LARGE = 172
 LARGE = 256
 AT_ONCE = 16  # cases that are made before the answers are looked at, while a fault is planted
-MOST_BYTES = 4 * 1024 * 1024
+MOST_BYTES = 9 * 512 * 1024
 CHECK = (1, 2, 3, 4, 5, 6, 7)
 BROKEN = (16, 19, 20, 21)
 CLAMPS = (22, 14)
@@ -50,6 +50,8 @@ REFUSALS = dict(
     feed=BROKEN + CHECK + CLAMPS + (15,),
     join=JOINING,
     svg=CHECK + (10, 11, 15),
+    clamp_ends=CHECK + (11, 15),
+    unclamp_right=CHECK + (23, 15),
 )
 
 
@@ -108,7 +110,8 @@ def compare(calls):
         faults += too_few_hits(hits)
     if not faults:
         reached = "%(inside)d exact points in clamps, %(within)d within the radius of one, %(at_side)d at it from a side, %(at_corner)d from a corner" % hits
-        print("%d cases; %d computed points within 2^-30; %s; %d exact pieces" % (len(cases), near, reached, hits["pieces"]))
+        kept = "%(pieces)d exact pieces, %(kept)d exact points before and after" % hits
+        print("%d cases; %d computed points within 2^-30; %s; %s" % (len(cases), near, reached, kept))
     return faults
 
 

@@ -6,12 +6,12 @@ import re
 import sys
 import unittest
 from collections import Counter
-from fractions import Fraction
 from pathlib import Path
 
 sys.dont_write_bytecode = True
 sys.path.insert(0, str(Path(__file__).resolve().parent.parent))
 
+from harness.polar import polar_points
 from second_program.curve import FARTHEST, MOST_POINTS, Curve
 from second_program.cut_curves import large_curve, moved, scaled_curve, unwhole_from, whole_curve
 from second_program.demands import Broken, try_pieces
@@ -26,24 +26,6 @@ from second_program.random_curves import random_curve
 from second_program.spans import spans
 
 NUMBER = re.compile(r"0|-?[1-9][0-9]*")
-
-
-def polar(curve, i, arguments):
-    """The point of span i by the triangle with another parameter in each row, in fractions."""
-    m, ts = curve.degree, curve.knots
-    row = {j: (Fraction(curve.xs[j]), Fraction(curve.ys[j])) for j in range(i - m, i + 1)}
-    for r, t in enumerate(arguments, 1):
-        above, row = row, {}
-        for j in range(i - m + r, i + 1):
-            w = ts[j + m - r + 1]
-            row[j] = tuple(((w - t) * a + (t - ts[j]) * b) / (w - ts[j]) for a, b in zip(above[j - 1], above[j]))
-    return row[i]
-
-
-def polar_points(curve, i):
-    """The Bezier points of span i: its right knot in more and more rows, its left one in the others."""
-    m, low, high = curve.degree, curve.knots[i], curve.knots[i + 1]
-    return [polar(curve, i, [low] * (m - k) + [high] * k) for k in range(m + 1)]
 
 
 def brought(m, stands, left, right):

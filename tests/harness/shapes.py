@@ -53,6 +53,8 @@ SHAPES = dict(
     feed=Shape((("places", "u32"), ("front", "u8[]"), ("received", "u64")), JOB, LISTS + SIDES_LIST, broken=PLACE),
     join=JOINING,
     svg=Shape(CURVE, (("length", "u32"),), (("path", "u8"),)),
+    clamp_ends=Shape(CURVE, (("points", "u32"),), LISTS),
+    unclamp_right=Shape(CURVE, (("points", "u32"),), LISTS),
 )
 assert tuple(SHAPES) == CALLS
 EXPORTED = tuple(call for call in CALLS if call != "clampcheck_text")  # the text of clampcheck has no export

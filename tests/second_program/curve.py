@@ -5,11 +5,12 @@ from collections import Counter
 from fractions import Fraction
 from typing import List, NamedTuple
 
-from .fault import planted
+from .fault import planted, planted_anywhere
 
 HIGHEST_KNOT = 16383
 FARTHEST = 262144
 MOST_POINTS = 1024
+NO_WEIGHT = Fraction(0)
 
 
 class Curve(NamedTuple):
@@ -23,6 +24,33 @@ def within(coordinate):
     return -FARTHEST <= coordinate <= FARTHEST
 
 
+def domain(curve):
+    """t_m and t_{n+1}."""
+    return curve.knots[curve.degree], curve.knots[len(curve.xs)]
+
+
+def full_ends(curve):
+    """Whether the first m+1 knots are equal, and the last m+1."""
+    m, ts = curve.degree, curve.knots
+    return len(set(ts[: m + 1])) == len(set(ts[-m - 1 :])) == 1
+
+
+def no_domain(curve):
+    """Row 5."""
+    low, high = domain(curve)
+    if planted("check:first_and_last"):
+        low, high = curve.knots[0], curve.knots[-1]
+    return low >= high or planted("check:full_ends") and not full_ends(curve)
+
+
+def most_times(curve, value):
+    """How often a value may stand among all the knots: m times strictly inside the domain, once more at its ends and outside."""
+    low, high = domain(curve)
+    inside = low < value < high
+    more = planted("check:inner_too_often") if inside else 1 + (planted("check:end_too_often") and value in (low, high))
+    return curve.degree + more
+
+
 def check(curve):
     """Rows 1 to 7 of the table; 0 where the curve passes."""
     m, ts, xs, ys = curve
@@ -34,20 +62,14 @@ def check(curve):
         return 3
     if any(t > HIGHEST_KNOT for t in ts) or any(b < a for a, b in zip(ts, ts[1:])):
         return 4
-    if len(set(ts[: m + 1])) > 1 or len(set(ts[-m - 1 :])) > 1 or ts[0] == ts[-1]:
+    if no_domain(curve):
         return 5
-    ends = (ts[0], ts[-1])
-    if any(times > (m + 1 if value in ends else m) for value, times in Counter(ts).items()):
+    if any(times > most_times(curve, value) for value, times in Counter(ts).items()):
         return 6
     farthest = FARTHEST - 1 if planted("check") else FARTHEST
     if any(abs(coordinate) > farthest for coordinate in xs + ys):
         return 7
     return 0
-
-
-def domain(curve):
-    """t_m and t_{n+1}."""
-    return curve.knots[curve.degree], curve.knots[len(curve.xs)]
 
 
 def span_of(curve, t):
@@ -62,6 +84,8 @@ def refused_at(curve, t):
     if number:
         return number
     low, high = domain(curve)
+    if planted_anywhere("to_last_knot"):
+        high = curve.knots[-1]
     return 0 if low <= t <= high else 8
 
 
@@ -107,10 +131,10 @@ def carrying(curve, t, axis):
 def basis(ts, i, j, r, t):
     """N_{j,r}(t) over fractions, i being the span of t; a term with divisor zero counts as zero."""
     if not j <= i <= j + r:
-        return Fraction(0)
+        return NO_WEIGHT
     if r == 0:
         return Fraction(1)
-    value = Fraction(0)
+    value = NO_WEIGHT
     if ts[j + r] != ts[j]:
         value += (t - ts[j]) / Fraction(ts[j + r] - ts[j]) * basis(ts, i, j, r - 1, t)
     if ts[j + r + 1] != ts[j + 1]:

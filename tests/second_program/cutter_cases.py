@@ -4,7 +4,7 @@ radii that are too large."""
 from . import vectors
 from .clamp_cases import bad_rectangle, good_rectangle, limited
 from .curve import FARTHEST, Curve
-from .expected import EACH_REFUSAL, Unexpected, any_room, expect, one_short, spare_room
+from .expected import EACH_REFUSAL, Unexpected, any_room, expect, expect_checked, one_short, spare_room
 from .fault import PLANTED
 from .random_curves import SPOILERS, random_curve, spoiled_curve
 from .spans import MOST_RADIUS, box, spans
@@ -135,7 +135,8 @@ def refused_cases(dice):
     for number in SPOILERS:
         for radius in (MOST_RADIUS, MOST_RADIUS + 1, dice.pick(TOO_LARGE)):
             rectangle = bad_rectangle(dice) if dice.chance(2) else (0, 1, 0, 1)
-            yield expect(number, make(spoiled_curve(dice, number), rectangle, radius, any_room(dice, 2)))
+            curve = spoiled_curve(dice, number)
+            yield expect_checked(curve, make(curve, rectangle, radius, any_room(dice, 2)))
     for _ in range(EACH_REFUSAL // 2):
         curve, radius = random_curve(dice), some_radius(dice)
         yield expect(14, make(curve, bad_rectangle(dice), radius, any_room(dice, 2)))

@@ -5,7 +5,7 @@ from .broken_radii import broken_radii
 from .clamp_cases import bad_rectangle
 from .curve import MOST_POINTS
 from .cutter_cases import some_radius, wide_rectangle
-from .expected import EACH_REFUSAL, any_room, each_one_short, expect, expect_at, one_short, room_for, spare_room
+from .expected import EACH_REFUSAL, any_room, each_one_short, expect, expect_at, expect_checked, one_short, room_for, spare_room
 from .job_cases import job_of, longest_job
 from .random_curves import SPOILERS, random_curve, spoiled_curve
 from .spans import MOST_RADIUS
@@ -45,7 +45,7 @@ def refused_jobs(dice, make):
     for number in SPOILERS:
         for radius in (MOST_RADIUS, MOST_RADIUS + 1, dice.pick(TOO_LARGE)):
             curve = spoiled_curve(dice, number, byte=True)
-            yield expect(number, make(job_of(curve, [bad_rectangle(dice)] * dice.between(0, 2), radius), None, vectors.size(curve)))
+            yield expect_checked(curve, make(job_of(curve, [bad_rectangle(dice)] * dice.between(0, 2), radius), None, vectors.size(curve)))
     for _ in range(EACH_REFUSAL // 2):
         radius = some_radius(dice)
         curve, clamps = wide_job(dice, radius)

@@ -1,6 +1,6 @@
 """The third demand, tried on the curves of the cases: a computed coordinate lies within 2^-30 of the exact one, and where an exact point lies no farther
-from a point of a clamp than the cutter's radius, a span that holds its parameter is listed. And the pieces of every curve that is written as path data are the
-exact curve.
+from a point of a clamp than the cutter's radius, a span that holds its parameter is listed. The pieces of every curve that is written as path data are the
+exact curve. And a curve that is made of another, by a knot more or fewer or by its ends, has the same domain and the same exact points.
 
 reach_cases.py has the points of clamps, and contacts that are made to lie exactly at the radius; exact_pieces.py says what is asked of pieces."""
 
@@ -13,13 +13,14 @@ from .cutter_cases import some_radius
 from .dice import Dice
 from .exact_pieces import inexact, misheld, to_be_tried
 from .pieces import cut
+from .random_curves import whole_parameter
 from .reach_cases import clamp_points, made_contacts
 from .spans import met
 
 BOUND = Fraction(1, 2**30)
 # How often all cases together have to hit: in a clamp, within the radius of one of its points, exactly at it from a side and from a corner; and how many pieces
-# are to be tried.
-LEAST = dict(inside=6000, within=3000, at_side=2500, at_corner=2500, pieces=800)
+# and exact points of a curve that was made of another are to be tried.
+LEAST = dict(inside=6000, within=3000, at_side=2500, at_corner=2500, pieces=800, kept=4000)
 
 
 class Broken(Exception):
@@ -79,10 +80,18 @@ def try_pieces(dice, curve, hits, cutting=cut):
     hits["pieces"] += len(tried)
 
 
+def try_kept(dice, curve, made, hits):
+    """The exact points before and after."""
+    tried = [Fraction(u) for u in domain(curve)] + [random_fraction(dice, curve) for _ in range(3)]
+    if domain(made) != domain(curve) or any(exact_point(made, u) != exact_point(curve, u) for u in tried):
+        raise Broken("%r is not the same curve as %r" % (made, curve))
+    hits["kept"] += len(tried)
+
+
 def try_case(dice, case, hits):
     """The number of parameters that were tried; what was hit is counted in hits."""
     curve = case.curve
-    asked = [*case.asked, *domain(curve), dice.pick(curve.knots), dice.between(*domain(curve))]
+    asked = [*case.asked, *domain(curve), whole_parameter(dice, curve), dice.between(*domain(curve))]
     for t in asked:
         try_closeness(curve, t)
     for clamp in case.clamps[:4]:
@@ -94,6 +103,8 @@ def try_case(dice, case, hits):
     try_contacts(dice, curve, hits)
     if case.call == "svg":
         try_pieces(dice, curve, hits)
+    if case.made is not None:
+        try_kept(dice, curve, case.made, hits)
     return len(asked)
 
 

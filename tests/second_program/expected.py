@@ -1,6 +1,6 @@
 """What the makers of cases share: the number that a case is meant to get, room for results, refused curves."""
 
-from .curve import FARTHEST, MOST_POINTS, Curve
+from .curve import FARTHEST, MOST_POINTS, Curve, check
 from .fault import PLANTED
 from .random_curves import random_curve, spoiled_curve
 from .record import PLACED
@@ -20,6 +20,12 @@ def expect(number, case):
     if case.number != number and not PLANTED:
         raise Unexpected("%s answers %d, and %d was meant" % (case.call, case.number, number))
     return case
+
+
+def expect_checked(curve, case):
+    """A case of a curve that was spoiled: told by the check's own number; where only its ends are not full, the rest of the call decides."""
+    number = check(curve)
+    return expect(number, case) if number else case
 
 
 def expect_broken(case):
@@ -72,7 +78,8 @@ def refused_curves(dice, make, numbers=range(1, 8), byte=False):
     """EACH_REFUSAL cases for each number of the check; make turns a curve into a case."""
     for number in numbers:
         for _ in range(EACH_REFUSAL):
-            yield expect(number, make(spoiled_curve(dice, number, byte)))
+            curve = spoiled_curve(dice, number, byte)
+            yield expect_checked(curve, make(curve))
 
 
 def too_many_points(dice, m):

@@ -10,7 +10,7 @@ PLANTED = os.environ.get("SECOND_FAULT")
 _answering = []
 
 # Faults beside the one that each call has: of a reader's places, of what it tells first, of what is kept between bursts, of the points where
-# joined pieces meet, of the cutter's radius, and of the pieces and the text of path data.
+# joined pieces meet, of the cutter's radius, of the pieces and the text of path data, and of ends that are open.
 MORE = (
     "read_record:length_place",  # the place of a length told as that of its tag
     "read_record:ended_first",  # 16 where the length is wrong and the contents run out too
@@ -65,6 +65,29 @@ MORE = (
     "svg:newline",  # a newline behind the text
     "svg:room_of_longest",  # 15 judged by what the longest text needs
     "svg:room_first",  # 15 told before 10 and 11
+    "check:full_ends",  # 5 where the first or the last m+1 knots differ
+    "check:first_and_last",  # 5 judged by the first and the last knot
+    "check:end_too_often",  # an end value of the domain accepted that stands m+2 times
+    "check:inner_too_often",  # a value inside accepted that stands m+1 times
+    "point_at:to_last_knot",  # parameters taken up to the last knot
+    "carrying:to_last_knot",
+    "insert_knot:at_left_end",  # a knot inserted where the domain begins
+    "remove_knot:doubled_end",  # a knot removed where the domain begins, if it stands there twice
+    "compact:doubled_end",
+    "list_spans_met:left_spans",  # spans left of the domain listed
+    "list_spans_met:right_spans",  # spans right of it
+    "clampcheck_text:left_spans",
+    "clampcheck_text:right_spans",
+    "svg:open_ends",  # a curve cut without its ends made full
+    "clamp_ends:keeps_outer",  # the first point kept
+    "clamp_ends:left_alone",  # the right end left as it is
+    "clamp_ends:tells_23",  # 23 told for 11
+    "unclamp_right:other_span",  # the new knots as far apart as the first span is wide
+    "unclamp_right:past_most",  # a last knot of 16,384 taken
+    "unclamp_right:keeps_last",  # the last point kept
+    "unclamp_right:any_range",  # points beyond the range taken
+    "unclamp_right:tells_11",  # 11 told for 23
+    "unclamp_right:room_first",  # 15 told before 23
 )
 
 

@@ -39,10 +39,10 @@ def window(curve, v):
     return i - curve.degree, i
 
 
-def insertable(dice, reach=FARTHEST, m=None, points=None):
+def insertable(dice, reach=FARTHEST, m=None, points=None, make=random_curve):
     """A curve and a value such that every new coordinate is whole: points of the window lie a multiple apart."""
     while True:
-        curve = random_curve(dice, m=m, points=points, gap=dice.pick((2, 3, 4, 8)))
+        curve = make(dice, m=m, points=points, gap=dice.pick((2, 3, 4, 8)))
         v = insertable_value(dice, curve)
         if v is None:
             continue
@@ -63,10 +63,10 @@ def insertable(dice, reach=FARTHEST, m=None, points=None):
         return Curve(degree, ts, *axes), v
 
 
-def not_whole(dice):
+def not_whole(dice, make=random_curve):
     """A curve and a value such that some new coordinate is not whole, of one axis alone in most cases."""
     while True:
-        curve, v = insertable(dice)
+        curve, v = insertable(dice, make=make)
         axes = [list(curve.xs), list(curve.ys)]
         first, last = window(curve, v)
         dice.pick(axes)[dice.between(first, last)] += dice.pick((-2, -1, 1, 2))

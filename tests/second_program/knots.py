@@ -4,7 +4,7 @@ rational polygon by elimination, whatever the weights are, and then inserts the 
 from fractions import Fraction
 
 from .curve import MOST_POINTS, Curve, check, domain, within
-from .fault import planted
+from .fault import planted, planted_anywhere
 
 
 def refused_room(curve, room):
@@ -31,7 +31,7 @@ def insert_judged(curve, v):
     """Number and the new curve, of a curve that passes the check."""
     m, ts = curve.degree, curve.knots
     low, high = domain(curve)
-    if not low < v < high or ts.count(v) >= m:
+    if not low - planted("insert_knot:at_left_end") < v < high or ts.count(v) >= m:
         return 9, None
     if len(curve.xs) == MOST_POINTS:
         return 10, None
@@ -100,7 +100,10 @@ def without(curve, v):
 
 
 def inner_values(curve):
+    """The values strictly inside the domain, rising."""
     low, high = domain(curve)
+    if planted_anywhere("doubled_end") and curve.knots[curve.degree + 1] == low:
+        low -= 1
     return sorted(set(t for t in curve.knots if low < t < high))
 
 
@@ -124,7 +127,7 @@ def compact(curve, room):
         return number, None, None
     new = curve
     for v in inner_values(curve):
-        while v in new.knots:
+        while v in inner_values(new):
             smaller = without(new, v)
             if smaller is None:
                 break

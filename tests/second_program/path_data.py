@@ -15,10 +15,10 @@ def written(letter, points):
     return " ".join([letter] * (letter != "") + [pair % point for point in points])
 
 
-def path_data(m, start, pieces):
-    """The text of pieces of this degree; start is the first point of the first."""
-    parts = [written("M", [start])]
-    for k, piece in enumerate(pieces):
+def path_data(m, pieces):
+    """The text of pieces of this degree, from the first point of the first on."""
+    parts = [written("M", pieces[0].points[:1])]
+    for k, piece in enumerate(pieces[:-1] if planted("svg") else pieces):
         points = piece.points[: m + 1][::-1] if planted("svg:backwards") else piece.points[: m + 1]
         letter = "" if k and planted("svg:one_letter") else LETTERS[m]
         parts.append(written(letter, points[1:]))
@@ -35,7 +35,7 @@ def svg(curve, room):
     number, pieces = cut(curve)
     if number:
         return number, None
-    text = path_data(curve.degree, (curve.xs[0], curve.ys[0]), pieces).encode("ascii")
+    text = path_data(curve.degree, pieces).encode("ascii")
     needed = LONGEST if planted("svg:room_of_longest") else len(text)
     return (15 if room < needed else 0), text
 

@@ -1,10 +1,11 @@
-"""A curve as its pieces. Every inner value is inserted, from left to right, until it stands as often as the degree says; the points that then carry a span are
-those of its piece. The first insertion that fails decides: 10 where the curve is full already, then 11."""
+"""A curve as its pieces. Its ends are made full, and then every inner value is inserted, from left to right, until it stands as often as the degree says; the
+points that then carry a span are those of its piece. What fails first decides: 11 for the ends; of an insertion 10 where the curve is full already, then 11."""
 
 from collections import Counter
 from typing import List, NamedTuple, Tuple
 
 from .curve import MOST_POINTS, Curve
+from .ends import clamped
 from .fault import planted
 from .knots import inner_values, insert_judged, polygon_with
 from .spans import spans
@@ -60,6 +61,9 @@ def carried(curve):
 
 def cut(curve):
     """Number and the pieces, in rising order, of a curve that passes the check."""
+    number, curve = (0, curve) if planted("svg:open_ends") else clamped(curve)
+    if number:
+        return number, None
     values = missing_knots(curve)
     if planted("svg:counted_first") and len(curve.xs) + len(values) > MOST_POINTS:
         return 10, None
@@ -67,4 +71,4 @@ def cut(curve):
         number, curve = inserted(curve, v)
         if number:
             return number, None
-    return 0, carried(curve)[:-1] if planted("svg") else carried(curve)
+    return 0, carried(curve)

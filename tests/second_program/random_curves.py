@@ -1,8 +1,20 @@
-"""Random curves that pass the check, and the same curves spoiled so that one row of the table refuses them."""
+"""Random curves with full ends that pass the check, and the same curves spoiled so that one row of the table refuses them, or so that their ends are not full.
+open_curves.py has those whose ends are open."""
 
-from .curve import FARTHEST, HIGHEST_KNOT, Curve, check, domain
+from .curve import FARTHEST, HIGHEST_KNOT, Curve, check, domain, full_ends
 
 U32_TOP = 2**32 - 1
+
+
+def knots_standing(dice, times, gap):
+    """Knots that begin anywhere: as many values as are told, each so often, neighbours at most gap apart."""
+    gap = min(gap, HIGHEST_KNOT // (len(times) - 1))
+    values = [0]
+    for _ in times[1:]:
+        values.append(values[-1] + dice.between(1, gap))
+    slack = HIGHEST_KNOT - values[-1]
+    start = dice.pick((0, slack, dice.between(0, slack)))
+    return [start + value for value, count in zip(values, times) for _ in range(count)]
 
 
 def random_knots(dice, m, points, gap):
@@ -11,16 +23,7 @@ def random_knots(dice, m, points, gap):
     while inner:
         times.append(min(inner, dice.pick((1, 1, 2, 3, m)), m))
         inner -= times[-1]
-    gap = min(gap, HIGHEST_KNOT // (len(times) + 1))
-    values = [0]
-    for _ in range(len(times) + 1):
-        values.append(values[-1] + dice.between(1, gap))
-    slack = HIGHEST_KNOT - values[-1]
-    start = dice.pick((0, slack, dice.between(0, slack)))
-    ts = []
-    for value, count in zip(values, [m + 1] + times + [m + 1]):
-        ts += [start + value] * count
-    return ts
+    return knots_standing(dice, [m + 1, *times, m + 1], gap)
 
 
 def random_coordinates(dice, count, reach):
@@ -40,7 +43,8 @@ def random_curve(dice, m=None, points=None, gap=None, reach=None):
 def whole_parameter(dice, curve):
     """An end, a knot or another whole number of the domain."""
     low, high = domain(curve)
-    return dice.pick((low, high, dice.pick(curve.knots), dice.between(low, high), dice.between(low, high)))
+    inside = [t for t in curve.knots if low <= t <= high]
+    return dice.pick((low, high, dice.pick(inside), dice.between(low, high), dice.between(low, high)))
 
 
 def outside_parameter(dice, curve):
@@ -138,13 +142,19 @@ SPOILERS = {
 }
 
 
+def row_with_full_ends(curve):
+    """The number that a curve is refused with where 5 asks for full ends as well."""
+    number = check(curve)
+    return number if number in (1, 2, 3, 4) or full_ends(curve) else 5
+
+
 def spoiled_curve(dice, number, byte=False):
-    """A curve that is refused with this number, often with a later fault as well; byte where the degree has one."""
+    """A curve that is refused with this number, or for 5 has ends that are not full; often with a later fault as well. Byte where the degree has one."""
     while True:
         curve = random_curve(dice)
         later = [other for other in SPOILERS if other > number]
         if later and dice.chance(2):
             curve = SPOILERS[dice.pick(later)](dice, curve, byte)
         curve = SPOILERS[number](dice, curve, byte)
-        if check(curve) == number:
+        if row_with_full_ends(curve) == number:
             return curve

@@ -73,8 +73,11 @@ def across_corner(dice, x, y):
 
 
 def contacts_at(dice, curve, u):
-    """Contacts of the whole exact point at u: kind, curve, clamp, radius, parameter and the point of the clamp. Clamps beyond the range are left out."""
-    x, y = (int(c) for c in exact_point(curve, u))
+    """Contacts of the exact point at u, where it is whole: kind, curve, clamp, radius, parameter and the point of the clamp. Clamps beyond the range are left out."""
+    exact = exact_point(curve, u)
+    if any(c.denominator != 1 for c in exact):
+        return
+    x, y = map(int, exact)
     for kind, (clamp, radius, point) in (("at_side", beside(dice, x, y, some_radius(dice))), ("at_corner", across_corner(dice, x, y))):
         if all(within(side) for side in clamp):
             yield kind, curve, clamp, radius, Fraction(u), point

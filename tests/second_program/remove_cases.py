@@ -26,9 +26,9 @@ from .random_curves import outside_parameter, random_curve, random_knots
 SMOOTH = ((), ((6, 2),), ((9, -1),), ((3, 1), (12, -2)), ((3, 1), (6, -1), (15, 3)))
 
 
-def removable(dice, m=None):
+def removable(dice, m=None, make=random_curve):
     """A curve, made by inserting, and the value that can be removed again."""
-    curve, v = insertable(dice, m=m)
+    curve, v = insertable(dice, m=m, make=make)
     return insert_knot(curve, v, WIDE)[1], v
 
 
@@ -67,9 +67,9 @@ def far_polygon(dice):
             return new, v
 
 
-def nearly_removable(dice):
+def nearly_removable(dice, make=random_curve):
     """A removable curve with one coordinate moved by one step."""
-    curve, v = removable(dice)
+    curve, v = removable(dice, make=make)
     axes = [list(curve.xs), list(curve.ys)]
     last = max(j for j in range(len(curve.xs)) if curve.knots[j] < v)
     j = min(len(curve.xs) - 1, last + dice.between(-curve.degree, 1))
@@ -116,9 +116,9 @@ def remove_knot_cases(dice):
         yield expect(15, make(curve, v, one_short(dice, room_for(remove_knot(curve, v, WIDE)[1]))))
 
 
-def knotted(dice, m):
+def knotted(dice, m, make=random_curve):
     """A curve into which up to six knots were inserted, sometimes with one coordinate moved afterwards."""
-    curve = random_curve(dice, m=m, points=m + dice.between(1, 4), gap=dice.pick((2, 4, 6)))
+    curve = make(dice, m=m, points=m + dice.between(1, 4), gap=dice.pick((2, 4, 6)))
     scale = dice.pick((12, 720, 5040, 4096))
     axes = [[scale * (c % 41 - 20) for c in axis] for axis in (curve.xs, curve.ys)]
     curve = Curve(m, curve.knots, *axes)

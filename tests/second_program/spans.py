@@ -25,14 +25,16 @@ def refused_clamps(radius, rectangles):
 
 
 def spans(curve):
-    """The indices of the non-empty spans, rising."""
+    """The indices of the non-empty spans, rising; those of the domain alone."""
     ts = curve.knots
-    return [i for i in range(curve.degree, len(curve.xs)) if ts[i] < ts[i + 1]]
+    first = 0 if planted_anywhere("left_spans") else curve.degree
+    behind = len(ts) - 1 if planted_anywhere("right_spans") else len(curve.xs)
+    return [i for i in range(first, behind) if ts[i] < ts[i + 1]]
 
 
 def box(curve, i):
     """The closed box of the points that carry span i, written as a rectangle."""
-    xs, ys = (axis[i - curve.degree : i + 1] for axis in (curve.xs, curve.ys))
+    xs, ys = (axis[max(0, i - curve.degree) : i + 1] for axis in (curve.xs, curve.ys))
     return min(xs), max(xs), min(ys), max(ys)
 
 

@@ -19,7 +19,7 @@ import struct
 from typing import NamedTuple, Optional, Sequence
 
 from . import curve as curves
-from . import joining, knots, path_data, record, spans
+from . import ends, joining, knots, path_data, record, spans
 from .fault import answering, must_be_of
 
 CALLS = (
@@ -38,6 +38,8 @@ CALLS = (
     "feed",
     "join",
     "svg",
+    "clamp_ends",
+    "unclamp_right",
 )
 must_be_of(CALLS)
 FORMATS = {"u8": "B", "u16": "H", "i32": "i"}
@@ -55,6 +57,7 @@ class Case(NamedTuple):
     radius: int = 0
     place: Optional[int] = None  # where the bytes break, if they do
     numbers: Sequence = ()  # what each of its calls answers; all but `feed` have one
+    made: Optional[curves.Curve] = None  # of an accepted curve another one that is to be the same exactly
 
 
 def u32(*numbers):
@@ -84,9 +87,9 @@ def after(kind, room, result):
     return entries(kind, list(result) + [before(kind, k) for k in range(len(result), room)])
 
 
-def case(call, number, arguments, answer, points, curve=None, asked=(), clamps=(), radius=0, place=None):
+def case(call, number, arguments, answer, points, curve=None, asked=(), clamps=(), radius=0, place=None, made=None):
     body = bytes([CALLS.index(call) + 1]) + arguments
-    return Case(call, number, body, u32(number) + answer, points, None if number else curve, asked, clamps, radius, place, (number,))
+    return Case(call, number, body, u32(number) + answer, points, None if number else curve, asked, clamps, radius, place, (number,), made)
 
 
 def size(curve):
@@ -120,21 +123,33 @@ def carrying(curve, t, axis):
     return case("carrying", number, arguments, lent_list("i32", part), size(curve), curve, [t])
 
 
-def knot_call(call, function, curve, v, room):
-    number, new = function(curve, v, room)
+def reshaping_call(call, function, curve, *rest):
+    """A curve as another curve; rest is the value, if one is asked for, and the room."""
+    number, new = function(curve, *rest)
+    *asked, room = rest
     counts = u32(len(new.xs)) if number == 0 else b""
-    arguments = curve_bytes(curve) + u32(v, *room)
-    return case(call, number, arguments, counts + lists_after(number, new, room), size(curve), curve)
+    arguments = curve_bytes(curve) + u32(*asked, *room)
+    return case(call, number, arguments, counts + lists_after(number, new, room), size(curve), curve, made=new)
 
 
 @answering
 def insert_knot(curve, v, room):
-    return knot_call("insert_knot", knots.insert_knot, curve, v, room)
+    return reshaping_call("insert_knot", knots.insert_knot, curve, v, room)
 
 
 @answering
 def remove_knot(curve, v, room):
-    return knot_call("remove_knot", knots.remove_knot, curve, v, room)
+    return reshaping_call("remove_knot", knots.remove_knot, curve, v, room)
+
+
+@answering
+def clamp_ends(curve, room):
+    return reshaping_call("clamp_ends", ends.clamp_ends, curve, room)
+
+
+@answering
+def unclamp_right(curve, room):
+    return reshaping_call("unclamp_right", ends.unclamp_right, curve, room)
 
 
 @answering
@@ -142,7 +157,7 @@ def compact(curve, room):
     number, new, removed = knots.compact(curve, room)
     counts = u32(removed) if number == 0 else b""
     arguments = curve_bytes(curve) + u32(*room)
-    return case("compact", number, arguments, counts + lists_after(number, new, room), size(curve), curve)
+    return case("compact", number, arguments, counts + lists_after(number, new, room), size(curve), curve, made=new)
 
 
 def join_call(times, params, px, py, tx, ty, room):
