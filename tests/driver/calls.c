@@ -132,6 +132,24 @@ static uint32_t insert_or_remove(int remove)
     return refusal;
 }
 
+/* A curve with other ends, full or open: both are asked alike. */
+typedef uint32_t reshaping(
+    uint32_t degree, const uint16_t *knots, size_t knots_len, const int32_t *xs, size_t xs_len, const int32_t *ys, size_t ys_len,
+    uint16_t *out_knots, size_t out_knots_len, int32_t *out_xs, size_t out_xs_len, int32_t *out_ys, size_t out_ys_len, size_t *points);
+
+static uint32_t reshape(reshaping *export)
+{
+    struct curve c = take_curve();
+    struct result r = take_result();
+    size_t *points = lend_number("points", sizeof *points);
+    uint32_t refusal = export(GIVEN(c), PLACES(r), points);
+    put_number(refusal);
+    if (refusal == TSB_OK)
+        put_count(*points);
+    put_result(r);
+    return refusal;
+}
+
 /* The answer has no place for the number of points: with the knots removed it must be that of before. */
 static uint32_t compact(void)
 {
@@ -277,6 +295,8 @@ int call_export(unsigned char number, size_t step, struct outcome *outcome)
     case 13: outcome->goes_on = feed_step(step, &outcome->ending); break;
     case 14: outcome->ending = ending_of(join(tsb_join)); break;
     case 15: outcome->ending = ending_of(write_curve(tsb_svg)); break;
+    case 16: outcome->ending = ending_of(reshape(tsb_clamp_ends)); break;
+    case 17: outcome->ending = ending_of(reshape(tsb_unclamp_right)); break;
     default: return 0;
     }
     outcome->wrong = counts_fit() ? wrong : "a count or a place does not fit into 32 bits";

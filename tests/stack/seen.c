@@ -33,6 +33,8 @@ SEEN(tsb_carrying)
 SEEN(tsb_insert)
 SEEN(tsb_remove)
 SEEN(tsb_compact)
+SEEN(tsb_clamp_ends)
+SEEN(tsb_unclamp_right)
 SEEN(tsb_join)
 SEEN(tsb_join_through_points)
 SEEN(tsb_spans)
@@ -43,8 +45,8 @@ SEEN(tsb_read_job)
 SEEN(tsb_feed)
 SEEN(tsb_feed_end)
 
-/* a cubic on a straight line with simple inner knots, which can be cut into pieces, its record and job and places for results */
-static uint16_t knots[KNOTS], out_knots[KNOTS], lows[POINTS], highs[POINTS];
+/* a cubic on a straight line with simple inner knots, which can be cut into pieces, the same with open ends, its record and job and places for results */
+static uint16_t knots[KNOTS], open_knots[KNOTS], out_knots[KNOTS], lows[POINTS], highs[POINTS];
 static int32_t xs[POINTS], ys[POINTS], out_xs[POINTS], out_ys[POINTS], clamps[TSB_CLAMPS_MOST * 4], tangents[JOINED];
 static uint8_t bytes[TSB_WORK_MOST], work[TSB_WORK_MOST], path[TSB_SVG_MOST];
 static size_t points, removed, length, path_length, place, clamp_count, received, first, count;
@@ -54,6 +56,7 @@ static size_t number_of_points;
 static const uint8_t radius_field[] = {6, 2, 0, 150, 0};
 
 #define CURVE 3, knots, number_of_points + 4, xs, number_of_points, ys, number_of_points
+#define OPEN_CURVE 3, open_knots, number_of_points + 4, xs, number_of_points, ys, number_of_points
 #define OUT out_knots, KNOTS, out_xs, POINTS, out_ys, POINTS
 #define JOB OUT, clamps, TSB_CLAMPS_MOST * 4, &degree, &points, &radius, &clamp_count, &place
 #define SPLINE knots + 3, JOINED, xs, JOINED, ys, JOINED, tangents, JOINED, tangents, JOINED
@@ -64,9 +67,12 @@ static uint32_t carrying(void) { return seen_tsb_carrying(CURVE, 1, &first); }
 static uint32_t insert(void) { return seen_tsb_insert(CURVE, 3, OUT, &points); }
 static uint32_t remove_one(void) { return seen_tsb_remove(CURVE, 6, OUT, &points); }
 static uint32_t compact(void) { return seen_tsb_compact(CURVE, OUT, &points, &removed); }
+static uint32_t clamp_ends(void) { return seen_tsb_clamp_ends(OPEN_CURVE, OUT, &points); }
+static uint32_t unclamp_right(void) { return seen_tsb_unclamp_right(CURVE, OUT, &points); }
 static uint32_t spans(void) { return seen_tsb_spans(CURVE, -9, 9000, -9, 9000, 150, lows, POINTS, highs, POINTS, &count); }
 static uint32_t write_record(void) { return seen_tsb_write_record(CURVE, bytes, sizeof bytes, &length); }
 static uint32_t svg(void) { return seen_tsb_svg(CURVE, path, sizeof path, &path_length); }
+static uint32_t open_svg(void) { return seen_tsb_svg(OPEN_CURVE, path, sizeof path, &path_length); }
 static uint32_t read_record(void) { return seen_tsb_read_record(bytes, length, OUT, &degree, &points, &place); }
 static uint32_t read_job(void) { return seen_tsb_read_job(bytes, length + sizeof radius_field, JOB); }
 static uint32_t feed(void) { return seen_tsb_feed(bytes, length + sizeof radius_field, work, sizeof work, &received); }
@@ -112,8 +118,10 @@ static void make_curve(size_t many)
     number_of_points = many;
     for (size_t j = 0; j < many; j++)
         xs[j] = ys[j] = (int32_t)(12 * j);
-    for (size_t j = 0; j < many + 4; j++)
+    for (size_t j = 0; j < many + 4; j++) {
         knots[j] = (uint16_t)(j <= 3 ? 0 : j >= many ? 6 * (many - 3) : 6 * (j - 3));
+        open_knots[j] = (uint16_t)(6 * j);
+    }
 }
 
 /* A radius behind the record that was written: a job without clamps. The record alone would be refused before the reader goes deep. */
@@ -133,9 +141,12 @@ int main(void)
         seen("tsb_insert", insert);
         seen("tsb_remove", remove_one);
         seen("tsb_compact", compact);
+        seen("tsb_clamp_ends", clamp_ends);
+        seen("tsb_unclamp_right", unclamp_right);
         seen("tsb_spans", spans);
         seen("tsb_write_record", write_record);
         seen("tsb_svg", svg);
+        seen("tsb_svg", open_svg);
         make_job();
         seen("tsb_read_record", read_record);
         seen("tsb_read_job", read_job);
