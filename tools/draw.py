@@ -5,7 +5,8 @@
     python3 tools/draw.py JOB PICTURE.svg OUTPUT          takes what clampcheck printed from the file OUTPUT
     python3 tools/draw.py JOB PICTURE.svg OUTPUT PATH     and what curvesvg printed from the file PATH
 
-The curve is drawn as curvesvg printed it, piece by piece. Where curvesvg cannot cut it on the grid (refused 10 or 11), or is not built and
+The curve is drawn over its domain, from the knot with as many knots in front of it as the degree says to the one with as many behind
+it, and as curvesvg printed it, piece by piece. Where curvesvg cannot cut it on the grid (refused 10 or 11), or is not built and
 no PATH is given, the pieces are worked out here, and the picture says so.
 
 The cut is a band as wide as the cutter, and each clamp has a second outline, widened by the cutter's radius. Clear clamps are
@@ -54,7 +55,7 @@ def draw_answer(job, listed, pieces, why):
     naming.Names(drawn).draw()
     under = legend.Legend(sheet, view.bottom + 54)
     under.scale(view)
-    under.curve(why)
+    under.curve(why, words.outside(job))
     under.signs(drawn)
     under.clamps(found)
     under.beyond(drawn)

@@ -18,6 +18,9 @@ A description has one thing on a line; what stands behind a # is a remark:
     radius 150                 the cutter's, half its width, in hundredths of a millimetre, 0 to 4,096: a 3 mm bit is 150, a pen 0
     clamp 2 3 5 9              low x, high x, low y, high y
 
+The curve goes from the knot that has as many knots in front of it as the degree says to the one that has as many behind it. Where those knots are equal
+to it, as here, the curve begins at its first point and ends at its last; where they are not, it is open there, and what lies outside is no part of it.
+
 What clampcheck would refuse is said here, with its line, and then no job is written unless --anyway asks for it.
 """
 

@@ -8,6 +8,7 @@ from collections import namedtuple
 
 import cutting
 import job_bytes
+import shape
 import text_kind
 
 KNOT_MOST = 16383
@@ -18,11 +19,11 @@ WORDS = {
     2: "there are too few points for the degree, or not as many x as y",
     3: "the number of knots does not go with points and degree",
     4: "a knot is above 16,383, or below the one before it",
-    5: "the first degree + 1 knots are not equal, or the last are not, or the first knot equals the last",
-    6: "a knot value stands too often: at an end more than degree + 1 times, inside more than degree times",
+    5: "the curve has no length: without the first knots, as many as the degree says, and as many last ones, the first that is left equals the last",
+    6: "a knot value stands too often: at an end of the curve, or outside it, more than degree + 1 times, inside more than degree times",
     7: "a coordinate lies beyond 262,144 hundredths of a millimetre, about 2.6 metres, from the middle",
     10: "curvesvg cannot cut a curve into more than 341 pieces of degree 3 or 511 of degree 2: make two curves of it",
-    11: "curvesvg cannot cut the curve: a point would fall between two grid lines; with evenly spaced knots and all coordinates multiples of 12 none ever does",
+    11: "curvesvg cannot cut the curve: a point of a piece, or at an open end, would fall between two grid lines; with evenly spaced knots and all coordinates multiples of 12 none ever does",
     14: "a clamp's sides are crossed, low above high, or one of them lies beyond 262,144",
     16: "the file ends before the job does: it is cut short, or empty",
     19: "a part of the job begins with another tag than belongs there",
@@ -58,28 +59,25 @@ def falling_fault(job):
     return None
 
 
-def ends_fault(job):
-    """Row 5."""
-    m, ts = job.degree, job.knots
-    for name, end, places in (("first", 0, range(m + 1)), ("last", len(ts) - 1, range(len(ts) - m - 1, len(ts)))):
-        for k in places:
-            if ts[k] != ts[end]:
-                words = "the %s %d knots are equal in a curve of degree %d, and knot %d is %d, not %d"
-                return Fault(5, words % (name, m + 1, m, k + 1, ts[k], ts[end]), ("knots", k))
-    if ts[0] == ts[-1]:
-        return Fault(5, "the first knot and the last are both %d; the curve has no length" % ts[0], ("knots", len(ts) - 1))
+def domain_fault(job):
+    """Row 5, where row 4 has passed."""
+    low, high = shape.domain(job)
+    if low == high:
+        first, last = job.degree + 1, len(job.points) + 1
+        return Fault(5, "the curve goes from knot %d to knot %d, and both are %d: it has no length" % (first, last, low), ("knots", last - 1))
     return None
 
 
 def repeats_fault(job):
-    """Row 6, where rows 4 and 5 have passed."""
+    """Row 6, where rows 4 and 5 have passed. Outside the domain there are no more than degree knots on either side."""
     m, ts = job.degree, job.knots
+    low, high = shape.domain(job)
     for k in range(len(ts)):
-        end = ts[k] in (ts[0], ts[-1])
-        most = m + 1 if end else m
+        inside = low < ts[k] < high
+        most = m if inside else m + 1
         if k >= most and ts[k - most] == ts[k]:
             words = "the knot value %d stands more than %d times, the most %s a curve of degree %d"
-            return Fault(6, words % (ts[k], most, "at an end of" if end else "inside", m), ("knots", k))
+            return Fault(6, words % (ts[k], most, "inside" if inside else "at an end of", m), ("knots", k))
     return None
 
 
@@ -122,7 +120,7 @@ def cut_fault(job):
     return None
 
 
-OF_CURVE = (counts_fault, falling_fault, ends_fault, repeats_fault, range_fault)
+OF_CURVE = (counts_fault, falling_fault, domain_fault, repeats_fault, range_fault)
 OF_JOB = (*OF_CURVE, radius_fault, clamps_fault)
 OF_PATH = (*OF_CURVE, cut_fault)
 

@@ -1,12 +1,17 @@
-"""The shape of a checked curve: its spans, their boxes, their Bezier points, and whether the cut along a piece reaches a clamp. All exact."""
+"""The shape of a checked curve: its domain, its spans, their boxes, their Bezier points, and whether the cut along a piece reaches a clamp. All exact."""
 
 from fractions import Fraction
 
 HALVINGS = 40
 
 
+def domain(job):
+    """The knots from which and to which the curve goes: as many lie in front of them, and behind, as the degree says."""
+    return job.knots[job.degree], job.knots[len(job.points)]
+
+
 def spans(job):
-    """Index and two knots of each span that is not empty."""
+    """Index and two knots of each span of the domain that is not empty."""
     ts = job.knots
     return [(i, ts[i], ts[i + 1]) for i in range(job.degree, len(job.points)) if ts[i] < ts[i + 1]]
 

@@ -25,7 +25,8 @@ from second_program.cut_curves import knots_of, large_curve, moved, scaled_curve
 from second_program.dice import Dice  # noqa: E402
 from second_program.job_cases import job_of  # noqa: E402
 from second_program.path_data import curvesvg_text  # noqa: E402
-from second_program.random_curves import spoiled_curve  # noqa: E402
+from second_program.open_curves import either_curve, open_times, spoiled_open_curve  # noqa: E402
+from second_program.open_svg_cases import cuttable as open_cuttable  # noqa: E402
 from second_program.record import record_of  # noqa: E402
 
 SIGN = (TOP / "examples" / "sign.job").read_bytes()
@@ -121,13 +122,16 @@ def given():
 
 
 def records(dice):
-    """Curves that can be cut and that nearly can, one for each refusal, full ones, and bytes that break in every way."""
+    """Curves that can be cut and that nearly can, with full ends and with open ones, one for each refusal, full ones, and bytes that break in every way."""
     for k in range(150):
         yield record_of(whole_curve(dice, 1 + k % 3))
         yield record_of(moved(dice, whole_curve(dice, 1 + k % 3)))
     for k in range(20):
         yield record_of(scaled_curve(dice, 2 + k % 2))
-        yield record_of(spoiled_curve(dice, 1 + k % 7, byte=True))
+        yield record_of(spoiled_open_curve(dice, 1 + k % 7, byte=True))
+    for k in range(60):
+        yield record_of(open_cuttable(dice, 1 + k % 3))
+        yield record_of(either_curve(dice, 1 + k % 3))
     for m, values, points in ((3, 340, 344), (3, 341, 345), (2, 510, 1023), (2, 511, 514), (2, 1021, 1024), (3, 1020, 1024)):
         yield record_of(large_curve(dice, m, values, points))
     full = large_curve(dice, 3, 341, 1020)
@@ -160,14 +164,18 @@ def judged():
     assert told == (10, None, "its 342 pieces of degree 3 take 1,027 points, and a curve has at most 1,024"), told
     below = refusals.judged_record(record_of(HILL._replace(xs=[0, -4, -9, -12])))
     assert below == (11, None, "cut at knot 2 the curve would have a point between x -7 and x -6"), below
+    open_end = refusals.judged_record(record_of(Curve(2, list(range(7)), [-1, -4, -8, -12], [0, 8, 8, 0])))
+    assert open_end == (11, None, "at an open end the curve would have a point between x -3 and x -2"), open_end
 
 
 def advice():
-    """What is told to help with 11 does help: even knots, which may stand several times, and multiples of 12."""
+    """What is told to help with 11 does help: even knots, which may stand several times, at open ends too, and multiples of 12."""
     dice, needed = Dice(12), 0
-    for k in range(200):
+    for k in range(400):
         m = 2 + k % 2
         knots = knots_of(dice, m, [dice.between(1, m) for _ in range(dice.between(1, 9))], 1)
+        if k % 4 > 1:
+            knots = [value for value, often in enumerate(open_times(dice, m, m + dice.between(1, 9))) for _ in range(often)]
         wide = dice.pick((1, 3, 10))
         points = len(knots) - m - 1
         axes = [[dice.between(-20000, 20000) for _ in range(points)] for _ in "xy"]
@@ -175,7 +183,7 @@ def advice():
         needed += curvesvg_text(record_of(curve)) == "refused 11\n"
         helped = curve._replace(xs=[12 * x for x in curve.xs], ys=[12 * y for y in curve.ys])
         assert curvesvg_text(record_of(helped)).startswith("M "), "%s cannot be cut" % (helped,)
-    assert needed > 100 and "multiples of 12" in refusals.WORDS[11], "the advice is not needed"
+    assert needed > 200 and "multiples of 12" in refusals.WORDS[11], "the advice is not needed"
 
 
 # What the program does, the file, and the status that is right.

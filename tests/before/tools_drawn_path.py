@@ -22,6 +22,7 @@ from job_bytes import Job, write_job  # noqa: E402
 from second_program.curve import exact_point  # noqa: E402
 from second_program.cut_curves import whole_curve  # noqa: E402
 from second_program.dice import Dice  # noqa: E402
+from second_program.open_svg_cases import cuttable as open_cuttable  # noqa: E402
 
 HEAD = "the drawn line is not proved: "
 NO_PROGRAM = HEAD + "curvesvg is not built (tools/try.sh --svg builds it)"
@@ -54,14 +55,18 @@ def drawn_pieces(drawn):
 
 def cuttable(dice, m):
     """A job whose curve can be cut, with a wide cutter."""
-    curve = whole_curve(dice, m, m + 5)
+    return wide(whole_curve(dice, m, m + 5))
+
+
+def wide(curve):
+    m = curve.degree
     return Job(m, curve.knots, list(zip(curve.xs, curve.ys)), 4096, [(0, 9, 0, 9)])
 
 
 def printed():
     """The band is the whole path and every piece is one of it, in its own place among the spans, though nothing is worked out here."""
     dice = Dice(6)
-    for job in (SIGN, HILL, *[cuttable(dice, m) for m in (1, 2, 3, 1, 2, 3)]):
+    for job in (SIGN, HILL, *[cuttable(dice, m) for m in (1, 2, 3, 1, 2, 3)], *[wide(open_cuttable(dice, m)) for m in (1, 2, 3, 2, 3)]):
         path = texts_on(write_job(job))[1].decode()
         right = pairs(path)
         with patch("shape.bezier", side_effect=AssertionError("the pieces are worked out here")):
@@ -169,5 +174,5 @@ def commands(folder):
     assert ended.returncode == 1 and b"python3 tools/draw.py JOB PICTURE.svg OUTPUT PATH" in ended.stderr, ended
 
 
-DONE = "tools/draw.py: 8 curves as curvesvg printed them, 4 curves that were not cut, 18 wrong paths, 14 commands"
+DONE = "tools/draw.py: 13 curves as curvesvg printed them, 4 curves that were not cut, 18 wrong paths, 14 commands"
 run_parts(DONE, printed, kinds, uncut, wrong, commands)

@@ -22,6 +22,7 @@ from second_program.broken_cases import broken_jobs  # noqa: E402
 from second_program.curve import Curve  # noqa: E402
 from second_program.dice import Dice  # noqa: E402
 from second_program.job_cases import damaged_job, good_job, job_of, longest_job, with_bad_clamp  # noqa: E402
+from second_program.open_curves import either_curve, spoiled_open_curve  # noqa: E402
 from second_program.random_curves import spoiled_curve  # noqa: E402
 from second_program.record import clampcheck_text  # noqa: E402
 
@@ -47,12 +48,14 @@ SAID = [
     (SOUND.replace("9 9", "9"), 3, "2 points of degree 1 take 4 knots, and here are 3"),
     (SOUND.replace("9 9", "16384 16384"), 4, "line 2: knot 3 is 16384; a knot is 0 to 16,383"),
     (SOUND.replace("knots 0 0 9 9", "knots 0 0 9\n\nknots 8"), 4, "line 4: knot 4 is 8, below the 9 before it; knots never fall"),
-    (CUBIC % "0 0 0 1 4 4 4 4", 5, "line 2: the first 4 knots are equal in a curve of degree 3, and knot 4 is 1, not 0"),
-    (CUBIC % "0 0 0 0 3 4 4 4", 5, "line 2: the last 4 knots are equal in a curve of degree 3, and knot 5 is 3, not 4"),
-    (CUBIC % "4 4 4 4 4 4 4 4", 5, "line 2: the first knot and the last are both 4"),
+    (CUBIC % "4 4 4 4 4 4 4 4", 5, "line 2: the curve goes from knot 4 to knot 5, and both are 4: it has no length"),
+    (CUBIC % "0 1 2 3 3 4 5 6", 5, "line 2: the curve goes from knot 4 to knot 5, and both are 3"),
+    ((CUBIC % "0 1 2 3 3\nknots 3 4 5 6") + "point 1 1\n", 5, "line 3: the curve goes from knot 4 to knot 6, and both are 3"),
     (SOUND.replace("0 0 9 9", "0 0 5 5 9 9") + "point 1 1\n" * 2, 6, "line 2: the knot value 5 stands more than 1 times, the most inside"),
     (SOUND.replace("0 0 9 9", "0 0 0 9 9") + "point 1 1\n", 6, "the knot value 0 stands more than 2 times, the most at an end of"),
     (SOUND.replace("0 0 9 9", "0 0 9 9 9") + "point 1 1\n", 6, "line 2: the knot value 9 stands more than 2 times"),
+    (SOUND.replace("0 0 9 9", "0 1 1 1 2 9") + "point 1 1\n" * 2, 6, "the knot value 1 stands more than 2 times, the most at an end of"),
+    (SOUND.replace("0 0 9 9", "0 1 2 2 3 9") + "point 1 1\n" * 2, 6, "the knot value 2 stands more than 1 times, the most inside"),
     (SOUND.replace("5 5", "5 -262145"), 7, "line 4: point 2 has y -262145; a coordinate is -262,144 to 262,144"),
     (BARE + "\nradius 4097\n", 22, "line 6: radius 4097; the cutter's radius is 0 to 4,096"),
     (BARE + "radius 65535\nclamp 1 0 0 0\n", 22, "line 5: radius 65535; the cutter's radius is 0 to 4,096"),
@@ -97,6 +100,8 @@ def messages():
             assert "refused %d" % number in found[1]
     assert {number for _, number, _ in SAID} == {None, *refusals.TOLD["clampcheck"]} - {*PLACED}, "a refusal is not tried"
     assert said(SOUND) == (None, None) and said(SOUND + "clamp 0 0 -262144 262144\n") == (None, None)
+    for knots in ("0 1 2 3 4 5 6 7", "0 0 0 1 4 4 4 4", "0 0 0 0 3 4 4 4", "0 0 0 1 2 9 9 9"):
+        assert said(CUBIC % knots) == (None, None), "open ends are refused: %s" % knots
     assert said(BARE + "radius 4096\n") == (None, None) and description.read_text(BARE + "radius 4096\n").radius == 4096, "the widest cutter"
     assert said("\ufeff" + SOUND)[0] is None and description.text_of(("\ufeff" + SOUND).encode()) == SOUND
     assert said(SOUND.replace("\n", "\r\n")) == said(SOUND.replace("\n", "\r")) == (None, None), "line ends"
@@ -115,7 +120,9 @@ def judged():
     for k in range(400):
         curve, clamps = good_job(dice, 4) if k % 4 else with_bad_clamp(dice)
         if k % 3 == 0:
-            curve = spoiled_curve(dice, 1 + k // 3 % 7, byte=True)
+            curve = (spoiled_open_curve, spoiled_curve)[k % 2](dice, 1 + k // 3 % 7, byte=True)
+        elif k % 3 == 1:
+            curve = either_curve(dice)
         radius = dice.pick((0, 1, 150, 4096)) if k % 7 else dice.pick((4097, 65535))
         data = damaged_job(dice) if k % 5 == 0 else job_of(curve, clamps, radius)
         number, text = clampcheck_text(data)

@@ -192,6 +192,25 @@ def kinds():
             assert told in texts(drawn), "radius %d, clamp %s: %s" % (radius, clamp, texts(drawn))
 
 
+def open_ends():
+    """A curve over its domain alone: from 2 to 4 of the knots 0 to 6, with its ends between control points; what only knots outside would list is clear."""
+    job = Job(2, list(range(7)), [(0, 0), (400, 800), (800, 800), (1200, 0)], 10, [(590, 610, 790, 810)])
+    drawn = picture(job)
+    assert "the curve goes from knot 2 to knot 4; the knots outside, 0 to 6, are there for its ends alone" in texts(drawn), texts(drawn)
+    values = {part.text for part in drawn.iter("{http://www.w3.org/2000/svg}text") if part.get("font-size") == "12"}
+    assert values == {"2", "3", "4"}, "knots outside the domain are drawn: %s" % values
+    dots = [(float(dot["cx"]), float(dot["cy"])) for dot in all_of(drawn, "circle")]
+    halfway = [tuple((a + b) / 2 for a, b in zip(*pair)) for pair in (dots[:2], dots[1:3], dots[2:4])]
+    (cut,) = bands(drawn)
+    places = [tuple(map(float, pair.split(","))) for pair in cut["d"].replace("M", "").replace("Q", "").split()]
+    for found, right in zip(places[::2], halfway):
+        assert all(abs(a - b) < 0.03 for a, b in zip(found, right)), "the curve passes %s and not %s" % (found, right)
+    assert len(places) == 5 and [kind for _, kind in clamp_places(drawn)] == [words.ENTERED]
+    idle = Job(1, [0, 1, 1, 2, 3], [(5000, 5000), (0, 0), (800, 400)], 10, [(4900, 5100, 4900, 5100)])
+    assert [kind for _, kind in clamp_places(picture(idle))] == [words.CLEAR], "a span outside the domain is listed"
+    assert not any("outside" in line for line in texts(picture(SIGN))), "the sample has no knots outside"
+
+
 def crowded():
     """No label on a small clamp or on another label, every number is there, and everything lies on the sheet."""
     dice = random.Random(8)
@@ -325,5 +344,5 @@ def commands(folder):
     assert folder.run("python3", "tools/draw.py", "job", "made.svg", "refused").returncode == 0, "a refused job gives no picture"
 
 
-DONE = "tools/draw.py: shapes, distances, the sample, cutters, kinds of clamps, 5 crowded sheets, far clamps, 1,024 points, %d refusals"
-run_parts(DONE % len(refusals.TOLD["clampcheck"]), shapes, distances, sign, cutter, kinds, crowded, beside_outlines, far, long_curve, odd, refused, commands)
+DONE = "tools/draw.py: shapes, distances, the sample, cutters, kinds of clamps, open ends, 5 crowded sheets, far clamps, 1,024 points, %d refusals"
+run_parts(DONE % len(refusals.TOLD["clampcheck"]), shapes, distances, sign, cutter, kinds, open_ends, crowded, beside_outlines, far, long_curve, odd, refused, commands)

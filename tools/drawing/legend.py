@@ -40,9 +40,11 @@ class Legend:
         self.sheet.text(LEFT + wide + 10, y + 3, length(steps), SIZE, fill="black")
         self.y += 34
 
-    def curve(self, why):
-        """The curve, and why it is not the one that curvesvg printed, where it is not."""
+    def curve(self, why, outside):
+        """The curve, what is said of knots outside its domain, and why it is not the one that curvesvg printed, where it is not."""
         self.sign(self.knotted, "the curve; a stroke across it is a knot, with its value where there is room")
+        if outside:
+            self.row(outside)
         if why:
             self.row("the drawn line is not proved: " + why)
 

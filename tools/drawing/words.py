@@ -77,6 +77,14 @@ def cutter(radius):
     return "a cutter %s wide (radius %d)" % (length(2 * radius), radius) if radius else "a pen (radius 0)"
 
 
+def outside(job):
+    """What is said where there are knots outside the domain; None where there are none."""
+    low, high = shape.domain(job)
+    if low == job.knots[0] and high == job.knots[-1]:
+        return None
+    return "the curve goes from knot %d to knot %d; the knots outside, %d to %d, are there for its ends alone" % (low, high, job.knots[0], job.knots[-1])
+
+
 def numbers_of(found, kind):
     return [number for number, finding in enumerate(found, 1) if finding.kind == kind]
 
