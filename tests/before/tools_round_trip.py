@@ -15,6 +15,7 @@ import description  # noqa: E402
 import draw  # noqa: E402
 import job as jobs  # noqa: E402
 import job_bytes  # noqa: E402
+import shape  # noqa: E402
 from second_program.curve import Curve  # noqa: E402
 from second_program.path_data import curvesvg_text  # noqa: E402
 from second_program.record import clampcheck_text, record_of, take_job  # noqa: E402
@@ -51,6 +52,15 @@ BAD = [
     (SOUND + "point 0 0\n" * 1023, "line 1028: 1025 points are more than the 1024"),
     (SOUND + "knots 1 1 1 1\n" * 257, "line 262: 1032 knots are more than the 1028"),
 ]
+OPEN_TEXT = """curve degree 3 points 10 spans 6
+clamp 1 clear
+clamp 2 clear
+clamp 3 may meet 50..60
+clamp 3 may meet 60..70
+clamp 3 may meet 70..80
+clamp 3 may meet 80..90
+clamp 4 may meet 80..90
+"""
 HEAD = b"\x01\x01\x00\x03"
 HOLLOW = HEAD + b"\x02\x00\x00\x03\x00\x00\x04\x00\x00"
 READY = HOLLOW + b"\x06\x02\x00\x96\x00"
@@ -146,10 +156,20 @@ def examples():
         picture = draw.draw(data, output.encode(), path.encode())
         kept = text.with_suffix(".svg")
         assert not kept.exists() or kept.read_text() == picture, "%s is not what tools/draw.py makes" % kept.name
-    assert (TOP / "examples" / "sign.svg").exists(), "the sample has no picture"
+    assert all((TOP / "examples" / name).exists() for name in ("sign.svg", "open.svg")), "a sample has no picture"
     shown = (TOP / "README.md").read_text().replace("    ", "")
     sample = clampcheck_text((TOP / "examples" / "sign.job").read_bytes())[1]
     assert sample in shown, "README.md does not show what clampcheck says of examples/sign.job"
+
+
+def open_ends():
+    """The example with open ends: what clampcheck says of it, worked out by hand; the boxes in front of its domain meet the first clamp, which is clear."""
+    data = (TOP / "examples" / "open.job").read_bytes()
+    assert clampcheck_text(data) == (0, OPEN_TEXT), clampcheck_text(data)
+    job = jobs.read_job(data)
+    first = shape.widened(job.clamps[0], job.radius)
+    before = [shape.box(job.points[: i + 1]) for i in range(job.degree)]
+    assert shape.domain(job) == (30, 90) and all(shape.meet(box, first) for box in before), "nothing outside the domain comes near the first clamp"
 
 
 def commands():
@@ -184,5 +204,6 @@ for given, words in BAD:
 for given, words in BAD_JOBS:
     expect_fault(jobs.read_job, given, words)
 examples()
+open_ends()
 commands()
 print("tools/job.py: 60 round trips, with and without a radius, %d bad texts, %d bad jobs, the examples" % (len(BAD), len(BAD_JOBS)))
