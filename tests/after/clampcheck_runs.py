@@ -2,7 +2,7 @@
 second program's answer; the outcomes that matter most are written out here besides.
 
 Every cut and every byte of two jobs changed in three ways, a full job at its end, jobs that break in every other way, each refusal that a
-job can reach, cutters that just reach a clamp or do not, the longest job and one byte more, the longest text, input in pieces, an empty pipe, a
+job can reach, cutters that just reach a clamp or do not, curves with open ends, the longest job and one byte more, the longest text, input in pieces, an empty pipe, a
 closed and an unreadable standard input.
 Of every job that is handed over at once, tools/job.py explain must tell the number and the place that clampcheck printed. At the end the
 comparison itself is tried: programs that print nothing, one fixed text, or every place one too far must be noticed.
@@ -33,12 +33,14 @@ from harness.program_runs import (  # noqa: E402
 from harness.refused_curves import REFUSED_CURVES  # noqa: E402
 from second_program.broken_cases import broken_jobs  # noqa: E402
 from second_program.broken_radii import broken_radii  # noqa: E402
+from second_program.clamp_cases import good_rectangle  # noqa: E402
 from second_program.curve import Curve  # noqa: E402
 from second_program.cutter_cases import some_radius  # noqa: E402
 from second_program.cutter_job_cases import wide_job  # noqa: E402
 from second_program.dice import Dice  # noqa: E402
+from second_program.expected import WORKED_U, WORKED_W  # noqa: E402
 from second_program.job_cases import damaged_job, good_job, job_of, longest_job, with_bad_clamp  # noqa: E402
-from second_program.random_curves import spoiled_curve  # noqa: E402
+from second_program.open_curves import either_curve, spoiled_open_curve  # noqa: E402
 from second_program.record import clampcheck_text  # noqa: E402
 
 MOST_SECONDS = 150
@@ -121,6 +123,12 @@ def texts():
         yield "a clamp at the end of the range and radius %d" % radius, job_of(line, [(262144, 262144, 0, 0)], radius), (
             "curve degree 1 points 2 spans 1\n" + told
         )
+    yield "even knots", job_of(WORKED_U, [(0, 0, 0, 0), (12, 12, 0, 0), (-9, -1, 0, 8)]), (
+        "curve degree 2 points 4 spans 2\nclamp 1 may meet 2..3\nclamp 2 may meet 3..4\nclamp 3 clear\n"
+    )
+    yield "a point that carries nothing", job_of(WORKED_W, [(100, 100, 100, 100), (4, 4, 2, 2)]), (
+        "curve degree 1 points 3 spans 1\nclamp 1 clear\nclamp 2 may meet 1..2\n"
+    )
 
 
 def written_refusals():
@@ -161,7 +169,9 @@ def jobs():
         yield "sound job %d" % k, job_of(*good_job(dice, 5))
         yield "damaged job %d" % k, damaged_job(dice)
         yield "bad clamp %d" % k, job_of(*with_bad_clamp(dice))
-        yield "bad curve %d" % k, job_of(spoiled_curve(dice, 1 + k % 7, byte=True), [(0, 1, 0, 1)])
+        yield "bad curve %d" % k, job_of(spoiled_open_curve(dice, 1 + k % 7, byte=True), [(0, 1, 0, 1)])
+        curve = either_curve(dice)
+        yield "open job %d" % k, job_of(curve, [good_rectangle(dice, curve) for _ in range(3)])
         radius = some_radius(dice)
         yield "wide job %d" % k, job_of(*wide_job(dice, radius), radius)
         yield "too wide job %d" % k, job_of(*wide_job(dice, radius), 4097 + 97 * k)

@@ -34,7 +34,7 @@ from second import ANSWERS, CASES, REFUSALS  # noqa: E402
 from second_program.broken_cases import broken_records, overlong_records  # noqa: E402
 from second_program.curve import FARTHEST, MOST_POINTS, Curve  # noqa: E402
 from second_program.dice import Dice  # noqa: E402
-from second_program.expected import WORKED_A, WORKED_B  # noqa: E402
+from second_program.expected import WORKED_A, WORKED_B, WORKED_U, WORKED_V, WORKED_W  # noqa: E402
 from second_program.job_cases import job_of  # noqa: E402
 from second_program.path_data import LONGEST, curvesvg_text  # noqa: E402
 from second_program.record import record_of  # noqa: E402
@@ -56,6 +56,10 @@ def written_out():
     yield RECORD_A, TEXT_A
     yield RECORD_B, TEXT_B
     yield record_of(Curve(1, [0, 0, 3, 5, 5], [-5, 10, -262144], [0, -1, 262144])), "M -5 0 L 10 -1 L -262144 262144\n"
+    yield record_of(WORKED_U), "M 2 4 Q 4 8 6 8 Q 8 8 10 4\n"
+    yield record_of(WORKED_V), "M 6 6 C 8 4 10 -4 12 -5\n"
+    yield record_of(WORKED_W), "M 0 0 L 8 4\n"
+    yield record_of(WORKED_U._replace(xs=[1, 4, 8, 12])), "refused 11\n"
     for ys in ([0, 7, 8, 0], [0, -7, 8, 0]):
         yield record_of(WORKED_B._replace(ys=ys)), "refused 11\n"
     yield record_of(Curve(2, [0, 0, *range(1023), 1022, 1022], [0] * 1024, [0] * 1024)), "refused 10\n"

@@ -19,7 +19,7 @@ from second_program.cut_curves import large_curve, moved, whole_curve  # noqa: E
 from second_program.dice import Dice  # noqa: E402
 from second_program.job_cases import damaged_job, good_job, job_of, longest_job, with_bad_clamp  # noqa: E402
 from second_program.path_data import curvesvg_text  # noqa: E402
-from second_program.random_curves import spoiled_curve  # noqa: E402
+from second_program.open_curves import spoiled_open_curve  # noqa: E402
 from second_program.record import PLACED, Fault, clampcheck_text, record_of, take_job  # noqa: E402
 
 CURVE = Curve(3, [0, 0, 0, 0, 4, 4, 4, 4], [0, 0, 8, 8], [0, 8, 8, 0])
@@ -40,7 +40,7 @@ def jobs():
     yield "far too much", bytes(10**6)
     dice = Dice(99)
     for k in range(1, 8):
-        yield "refusal %d" % k, job_of(spoiled_curve(dice, k, byte=True), [])
+        yield "refusal %d" % k, job_of(spoiled_open_curve(dice, k, byte=True), [])
     yield "refusal 14", job_of(*with_bad_clamp(dice))
     yield "refusal 22", job_of(CURVE, [(9, 12, 0, 4)], 4097)
     for number, place, job in [*list(broken_jobs(dice))[::17], *list(broken_radii(dice))[::17]]:
@@ -58,7 +58,7 @@ def curves():
         yield "curve %d" % k, record_of(curve) if k % 2 else job_of(curve, [(0, 1, 0, 1)] * k, 150)
         yield "curve %d, a point moved" % k, record_of(moved(dice, curve))
     for k in range(1, 8):
-        yield "refusal %d" % k, record_of(spoiled_curve(dice, k, byte=True))
+        yield "refusal %d" % k, record_of(spoiled_open_curve(dice, k, byte=True))
     yield "a point between grid lines", record_of(Curve(2, [0, 0, 0, 2, 4, 4, 4], [0, 4, 8, 12], [0, 7, 8, 0]))
     yield "a full curve", record_of(large_curve(dice, 3, 341, 1024))
     yield "a curve that gets full", record_of(large_curve(dice, 2, 510, 1023))

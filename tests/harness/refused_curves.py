@@ -10,8 +10,10 @@ REFUSED_CURVES = (
     (3, WORKED_A._replace(knots=[0, 0, 0, 0, 4, 4, 4])),
     (4, WORKED_A._replace(knots=[0, 0, 0, 0, 4, 4, 4, 3])),
     (4, WORKED_A._replace(knots=[0, 0, 0, 0, 16384, 16384, 16384, 16384])),
-    (5, WORKED_A._replace(knots=[0, 0, 0, 1, 4, 4, 4, 4])),
+    (5, WORKED_A._replace(knots=[0, 1, 2, 3, 3, 4, 5, 6])),
     (5, WORKED_A._replace(knots=[4] * 8)),
     (6, Curve(1, [0, 0, 2, 2, 4, 4], [0, 1, 2, 3], [0, 1, 2, 3])),
+    (6, Curve(1, [0, 1, 1, 1, 2, 3], [0, 1, 2, 3], [0, 1, 2, 3])),
+    (6, Curve(1, [0, 1, 2, 2, 3, 4], [0, 1, 2, 3], [0, 1, 2, 3])),
     (7, WORKED_A._replace(xs=[0, 0, 8, 262145])),
 )

@@ -4,7 +4,22 @@ knots, coordinates, points and lent lists with one past each."""
 from . import vectors
 from .curve import FARTHEST, HIGHEST_KNOT, MOST_POINTS, Curve
 from .ends import clamp_ends, unclamp_right
-from .expected import EACH_REFUSAL, SUCCESSES, WIDE, WORKED_A, WORKED_B, any_room, each_one_short, expect, one_short, room_for, spare_room
+from .expected import (
+    EACH_REFUSAL,
+    SUCCESSES,
+    WIDE,
+    WORKED_A,
+    WORKED_B,
+    WORKED_U,
+    WORKED_V,
+    WORKED_W,
+    any_room,
+    each_one_short,
+    expect,
+    one_short,
+    room_for,
+    spare_room,
+)
 from .open_curves import (
     clampable,
     either_curve,
@@ -19,8 +34,6 @@ from .open_curves import (
 )
 from .random_curves import random_curve
 
-EVEN_QUADRATIC = Curve(2, [0, 1, 2, 3, 4, 5, 6], [0, 2, 6, 8], [0, 4, 4, 0])
-EVEN_CUBIC = Curve(3, [0, 1, 2, 3, 4, 5, 6, 7], [0, 6, 12, 18], [0, 12, -12, 6])
 SAME = 12
 
 
@@ -75,7 +88,7 @@ def at_the_edge(dice, m):
 
 def clamp_ends_cases(dice):
     make = vectors.clamp_ends
-    for curve in (EVEN_QUADRATIC, EVEN_CUBIC, WORKED_A, WORKED_B):
+    for curve in (WORKED_U, WORKED_V, WORKED_W, WORKED_A, WORKED_B):
         yield from short_of(dice, make, clamp_ends, curve)
     for k in range(SUCCESSES + 40):
         yield done(dice, make, clamp_ends, clampable(dice, 1 + k % 3))
@@ -123,7 +136,7 @@ def not_opened_cases(dice, make):
 
 def unclamp_right_cases(dice):
     make = vectors.unclamp_right
-    for curve in (WORKED_A._replace(xs=[0, 0, 8, 16]), WORKED_B, clamp_ends(EVEN_QUADRATIC, WIDE)[1], clamp_ends(EVEN_CUBIC, WIDE)[1]):
+    for curve in (WORKED_A, WORKED_B, *(clamp_ends(curve, WIDE)[1] for curve in (WORKED_U, WORKED_V, WORKED_W))):
         yield from short_of(dice, make, unclamp_right, curve)
     for k in range(SUCCESSES + 40):
         yield done(dice, make, unclamp_right, openable(dice, 1 + k % 3))

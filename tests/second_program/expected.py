@@ -10,6 +10,9 @@ SUCCESSES = 80
 WIDE = (1100, 1100, 1100)
 WORKED_A = Curve(3, [0, 0, 0, 0, 4, 4, 4, 4], [0, 0, 8, 8], [0, 8, 8, 0])
 WORKED_B = Curve(2, [0, 0, 0, 2, 4, 4, 4], [0, 4, 8, 12], [0, 8, 8, 0])
+WORKED_U = Curve(2, [0, 1, 2, 3, 4, 5, 6], [0, 4, 8, 12], [0, 8, 8, 0])
+WORKED_V = Curve(3, [0, 1, 2, 3, 4, 5, 6, 7], [0, 6, 12, 18], [0, 12, -12, 6])
+WORKED_W = Curve(1, [0, 1, 1, 2, 3], [100, 0, 8], [100, 0, 4])  # its first point carries nothing
 
 
 class Unexpected(Exception):
