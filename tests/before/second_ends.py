@@ -15,6 +15,7 @@ sys.path.insert(0, str(Path(__file__).resolve().parent.parent))
 from harness.polar import polar
 from second_program.clamp_cases import good_rectangle, random_fraction
 from second_program.curve import FARTHEST, Curve, check, domain, exact_point, full_ends, point_at, within
+from second_program.demands import Broken, try_kept
 from second_program.dice import Dice
 from second_program.ends import clamp_ends, clamped_axes, clamped_knots, open_knots, opened_axes, unclamp_right
 from second_program.expected import WIDE
@@ -211,6 +212,23 @@ class Domain(unittest.TestCase):
             u = random_fraction(self.dice, curve)
             self.assertEqual(exact_point(curve, u), exact_point(other, u))
             self.assertEqual(clamped_axes(curve), clamped_axes(other))
+
+
+class Tries(unittest.TestCase):
+    def test_another_curve_is_told(self):
+        """Of the try of exact points before and after: a carrying point moved by a step, another domain, and the curve itself, which passes."""
+        dice, told = Dice(14), Counter()
+        for _ in range(60):
+            curve = either_curve(dice)
+            j = dice.pick(spans(curve)) - dice.between(0, curve.degree)
+            wrong = dict(right=curve, moved=curve._replace(xs=[x + (k == j) for k, x in enumerate(curve.xs)]))
+            wrong["shifted"] = curve._replace(knots=[t + 1 for t in curve.knots])
+            for name, made in wrong.items():
+                try:
+                    try_kept(dice, curve, made, Counter())
+                except Broken:
+                    told[name] += 1
+        self.assertTrue(told["right"] == 0 and told["shifted"] == 60 and told["moved"] > 40, told)
 
 
 if __name__ == "__main__":
