@@ -1,2 +1,3 @@
 -- Why the pieces that are drawn are the curve.
 pub mod SpanLaws
+pub mod DrawnLaws
