@@ -4,23 +4,19 @@ use mathlib.Core.Path.{_≡_, sym, ap, subst, _∙_}
 use Prim.Native.Nat.{ℕ, _+_, _^_, _≤_, _<_}
 use native.Mathlib.Decide.{ℕ-discrete}
 use native.Mathlib.Omega.{arith}
-use lib.Dec.{leb}
 use lib.ListN.{length, length-append}
 use borrow.Author.Tests.{ne-eqb, le-leb}
 use Rattle.refusal.specs.Judging.{unless}
 use Rattle.refusal.specs.Numbers.{accepted, roomRefused}
 use Rattle.curve.specs.Lists.{Lists}
-use Rattle.grid.specs.Check.{checkNumber}
 use Rattle.grid.specs.Limits.{svgMost}
-use Rattle.grid.proofs.ThenLaws.{checkedThen-refused, checkedThen-passed}
-use Rattle.cutting.specs.Cutting.{cuts, insertableEachThen, cutThen, cutNumber}
-use Rattle.cutting.proofs.EachLaws.{each-refused}
 use Rattle.digits.specs.Put.{Put}
 use Rattle.digits.proofs.PutLaws.{two-second, two-joined}
 use Rattle.lines.specs.Lines.{lineEnd, refusedLine}
 use Rattle.lines.proofs.LengthLaws.{refusedLine-most}
-use Rattle.svg_out.specs.Svg.{svgText, svgNumber, SvgOutcome}
+use Rattle.svg_out.specs.Svg.{svgText, drawThen, drawNumber, fitting, svgNumber, SvgOutcome}
 use Rattle.svg_out.specs.declared.SvgAnswer.the-variants.{Written, Refused}
+use Rattle.svg_whole.proofs.DrawLaws.{draw-refused}
 use Rattle.svg_whole.proofs.TextLaws.{svg-within-most}
 use Rattle.round_trip.proofs.AnswerLaws.{answered-value, answered-number}
 use Rattle.svg_text.specs.Text.{drawnText}
@@ -30,41 +26,28 @@ apart : (n number : ℕ) → Written n ≡ Refused number → ⊥
 apart n number e = let z : _≡_ {A = ℕ} 0 1 = cc in omega arith
 
 module _ (m : ℕ) (c : Lists) where
-  -- where cutting is refused, what is judged next does not matter
-  cut-refused : (next : ℕ) → (cutNumber m c ≡ accepted → ⊥) → cutThen m c next ≡ cutNumber m c
-  unfolding cutThen
-  cut-refused next refused =
-      elim (ℕ-discrete (checkNumber m (c .knots) (c .xs) (c .ys)) 0) [
-        | no fails ↦ checkedThen-refused m (c .knots) (c .xs) (c .ys) _ fails ∙ sym (checkedThen-refused m (c .knots) (c .xs) (c .ys) _ fails)
-        | yes passes ↦
-            let own = checkedThen-passed m (c .knots) (c .xs) (c .ys) (insertableEachThen m (cuts m c) c accepted) passes in
-            checkedThen-passed m (c .knots) (c .xs) (c .ys) _ passes
-            ∙ each-refused m (cuts m c) c next (λ none. refused (own ∙ none))
-            ∙ sym own
-      ]
-
   -- the text of each of both
-  pub drawn : cutNumber m c ≡ accepted → drawnText m c ≡ svgText m c ++ lineEnd
+  pub drawn : drawNumber m c ≡ accepted → drawnText m c ≡ svgText m c ++ lineEnd
   unfolding drawnText
   drawn none = rw none
 
   module _ (out : List ℕ) (room : svgMost < length out) where
-    -- so the number is that of cutting
-    number-same : svgNumber m c out ≡ cutNumber m c
+    -- so the number is that of clamping and cutting
+    number-same : svgNumber m c out ≡ drawNumber m c
     unfolding svgNumber
     number-same =
-        elim (ℕ-discrete (cutNumber m c) 0) [
+        elim (ℕ-discrete (drawNumber m c) 0) [
           | yes none ↦
               let fits = le-leb (length (svgText m c)) (length out) (omega (arith, svg-within-most m c none, room)) in
-              ap (λ b. cutThen m c (unless b roomRefused accepted)) fits
-          | no refused ↦ cut-refused (unless (leb (length (svgText m c)) (length out)) roomRefused accepted) refused
+              ap (λ b. drawThen m c (unless b roomRefused accepted)) fits
+          | no refused ↦ draw-refused m c (fitting (svgText m c) out) refused
         ]
 
     module _ (n : ℕ) (now : List ℕ) (w : SvgOutcome m c out (Written n) now) where
       known : (svgNumber m c out ≡ 0) × (Written n ≡ Written (length (svgText m c)))
       known = answered-value Written Refused (Written n) (λ number. apart n number) (svgNumber m c out) (length (svgText m c)) (w .answers)
 
-      none-refused : cutNumber m c ≡ accepted
+      none-refused : drawNumber m c ≡ accepted
       none-refused = sym number-same ∙ known .0
 
       path-put : Put out 0 (svgText m c) now n

@@ -25,8 +25,8 @@ use Rattle.round_trip.specs.RoundTrip.{frontOf}
 use Rattle.round_trip.proofs.AnswerLaws.{answered-number}
 use Rattle.round_trip.proofs.RecordTrip.{Stored, read-stored, records-short, faults-exactly}
 use Rattle.round_trip.proofs.StorableLaws.{passes-storable}
-use Rattle.cutting.specs.Cutting.{cutNumber}
-use Rattle.cut_whole.proofs.SentenceLaws.{cut-number-is}
+use Rattle.svg_out.specs.Svg.{drawNumber}
+use Rattle.svg_whole.proofs.DrawLaws.{draw-unchecked}
 use Rattle.digits.specs.Put.{Put}
 use Rattle.digits.proofs.PutLaws.{put-front}
 use Rattle.lines.specs.Lines.{refusedLine, brokenLine}
@@ -49,7 +49,7 @@ refused-broken n number place e = let z : _≡_ {A = ℕ} 0 1 = cc in omega arit
 drawn-refused : (m : ℕ) (c : Lists) (number : ℕ) → (number ≡ accepted → ⊥) → number ≡ checkNumber m (c .knots) (c .xs) (c .ys) → refusedLine number ≡ drawnText m c
 unfolding drawnText
 drawn-refused m c number refused e =
-    let own : number ≡ cutNumber m c = e ∙ sym (cut-number-is m c .1 (λ none. refused (e ∙ none))) in
+    let own : number ≡ drawNumber m c = e ∙ sym (draw-unchecked m c accepted (λ none. refused (e ∙ none))) in
     rw (sym own, ne-eqb number 0 refused)
 
 module _ (bytes : List ℕ) where

@@ -10,12 +10,11 @@ use Rattle.format.specs.Format.{form1, IsRecord}
 use Rattle.fault.specs.Fault.{Fault}
 use Rattle.fault.specs.Kinds.{loneRecords}
 use Rattle.lines.specs.Lines.{lineEnd, refusedLine, brokenLine}
-use Rattle.cutting.specs.Cutting.{cutNumber}
-use Rattle.svg_out.specs.Svg.{svgText}
+use Rattle.svg_out.specs.Svg.{svgText, drawNumber}
 
 -- a curve's text: its path data and a newline, or the line on its refusal, by 1 to 7, 10 or 11
 unfoldable pub drawnText : ℕ → Lists → List ℕ
-drawnText m c = cond (eqb (cutNumber m c) accepted) (svgText m c ++ lineEnd) (refusedLine (cutNumber m c))
+drawnText m c = cond (eqb (drawNumber m c) accepted) (svgText m c ++ lineEnd) (refusedLine (drawNumber m c))
 
 -- the text of some bytes: that of the curve whose record they are, or of their leftmost fault where they are nobody's
 pub data SvgTextOf (bytes text : List ℕ) : Type 0 where
