@@ -7,6 +7,8 @@ use Rattle.spans_met.specs.declared.SpansAnswer.the-variants as listed
 use Rattle.insert_knot.specs.declared.InsertAnswer.the-variants as inserted
 use Rattle.remove_knot.specs.declared.RemoveAnswer.the-variants as removed
 use Rattle.compact.specs.declared.CompactAnswer.the-variants as compacted
+use Rattle.clamp_ends.specs.declared.ClampAnswer.the-variants as clamped
+use Rattle.unclamp_right.specs.declared.UnclampAnswer.the-variants as unclamped
 use Rattle.joining.specs.declared.JoinAnswer.the-variants as joined
 use Rattle.record.specs.declared.WriteAnswer.the-variants as written
 use Rattle.record.specs.declared.ReadAnswer.the-variants as read
@@ -29,6 +31,12 @@ remove-variants = record { apart = λ v n e. cc; same-value = λ v w e. cc; same
 
 pub compact-variants : Variants compacted.Compacted compacted.Refused
 compact-variants = record { apart = λ v n e. cc; same-value = λ v w e. cc; same-number = λ m n e. cc }
+
+pub clamp-variants : Variants clamped.Clamped clamped.Refused
+clamp-variants = record { apart = λ v n e. cc; same-value = λ v w e. cc; same-number = λ m n e. cc }
+
+pub unclamp-variants : Variants unclamped.Unclamped unclamped.Refused
+unclamp-variants = record { apart = λ v n e. cc; same-value = λ v w e. cc; same-number = λ m n e. cc }
 
 pub join-variants : Variants joined.Joined joined.Refused
 join-variants = record { apart = λ v n e. cc; same-value = λ v w e. cc; same-number = λ m n e. cc }

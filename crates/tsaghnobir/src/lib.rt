@@ -3,6 +3,7 @@
 mod bursts;
 mod bytes;
 mod drawings;
+mod ends;
 mod knots;
 mod questions;
 mod spline_points;
@@ -13,6 +14,8 @@ pub use bytes::tsb_read_job;
 pub use bytes::tsb_read_record;
 pub use bytes::tsb_write_record;
 pub use drawings::tsb_svg;
+pub use ends::tsb_clamp_ends;
+pub use ends::tsb_unclamp_right;
 pub use knots::tsb_compact;
 pub use knots::tsb_insert;
 pub use knots::tsb_remove;
