@@ -47,6 +47,16 @@ use Rattle.pieces_exact.proofs.PieceLaws.{piece-is-curve, pieces-meet, pieces-c
 use Rattle.svg_whole.proofs.LongestLaws.{svg-most-reached}
 use Rattle.svg_whole.proofs.TextLaws.{svg-is-path-data, svg-within-most}
 use Rattle.svg_whole.proofs.OutcomeLaws.{svg-answers-first, success-writes-text, refusal-writes-nothing}
+use Rattle.clamping.proofs.ClampedLaws.{clamped-knots, clamped-passes}
+use Rattle.clamping.proofs.StayLaws.{clamped-comes-back}
+use Rattle.clamping.proofs.SentenceLaws.{clamp-answers-first}
+use Rattle.unclamping.proofs.SentenceLaws.{unclamp-answers-first}
+use Rattle.unclamping.proofs.IndexLaws.{unclamped-by-index}
+use Rattle.same_polygon.proofs.PointLaws.{curve-fixes-carriers}
+use Rattle.same_polygon.proofs.PolygonLaws.{curve-fixes-polygon}
+use Rattle.ends_exact.proofs.ClampLaws.{clamp-keeps-curve, clamp-exactly}
+use Rattle.ends_exact.proofs.UnclampedLaws.{unclamp-keeps-curve, unclamp-exactly, unclamped-clamps-back}
+use Rattle.drawn_exact.proofs.DrawnLaws.{drawn-is-curve}
 use Rattle.remove_knot.proofs.OutcomeLaws as Removal
 use Rattle.round_trip.proofs.RecordTrip.{written-reads-back, read-writes-back, one-record-for-each-curve, records-short, faults-exactly, reading-determined}
 use Rattle.round_trip.proofs.JobTrip.{job-reads-back, jobs-short, job-faults-exactly, job-reading-determined}
@@ -57,7 +67,7 @@ use Rattle.svg_text.proofs.UniqueLaws.{some-svg-text, one-svg-text, broken-reco
 use Rattle.clear_is_clear.proofs.ClearLaws.{clear-is-clear, every-clamp-told, else-listed}
 use Rattle.knots_exact.proofs.CompactionLaws.{compact-keeps-curve, editing-passes}
 use Rattle.compact.proofs.OutcomeLaws as Compaction
-use Rattle.promises.specs.Promises.{CheckGivesLowestRow, RefusalsAnswerFirst, ResultsHandedOver, CarryingPointsCarry, SpansListedExactly, InsertedEntryByEntry, InsertedThenRemoved, CompactionTakesWhatItCounts, JoinedCurveMeetsPoints, MeetingPointsDropOut, CurvesCutAtKnots, PiecesAreTheCurve, PiecesCoverTheCurve, PathDataWritten, DrawingProgramHasOneText, ExportsDetermined, EveryParameterHasItsSpan, ComputedPointNearExact, CutsReported, CrossingsReported, InsertionKeepsCurve, RemovalKeepsCurve, RemovalDetermined, CompactionKeepsCurve, CompactionDetermined, EditedCurvePasses, JoinedCurvePasses, JoinedCurveIsHermite, RecordsGoRound, FaultIsLeftmost, PlacesToldWithFaults, ReadingIsExact, JobsReadBack, BurstsReadAsJoined, BurstsAreKept, ProgramWritesItsText, ClearMeansClear, WorkedCasesHold}
+use Rattle.promises.specs.Promises.{CheckGivesLowestRow, RefusalsAnswerFirst, ResultsHandedOver, CarryingPointsCarry, SpansListedExactly, InsertedEntryByEntry, InsertedThenRemoved, CompactionTakesWhatItCounts, JoinedCurveMeetsPoints, MeetingPointsDropOut, CurveDeterminesPolygon, ClampingKeepsCurve, ClampedCurvePasses, UnclampingKeepsCurve, UnclampedCurveClampsBack, CurvesCutAtKnots, PiecesAreTheCurve, PiecesCoverTheCurve, PathDataWritten, DrawingProgramHasOneText, ExportsDetermined, EveryParameterHasItsSpan, ComputedPointNearExact, CutsReported, CrossingsReported, InsertionKeepsCurve, RemovalKeepsCurve, RemovalDetermined, CompactionKeepsCurve, CompactionDetermined, EditedCurvePasses, JoinedCurvePasses, JoinedCurveIsHermite, RecordsGoRound, FaultIsLeftmost, PlacesToldWithFaults, ReadingIsExact, JobsReadBack, BurstsReadAsJoined, BurstsAreKept, ProgramWritesItsText, ClearMeansClear, WorkedCasesHold}
 
 pub check-gives-lowest-row : CheckGivesLowestRow
 check-gives-lowest-row = check-answers
@@ -136,6 +146,8 @@ refusals-answer-first = (
   job-answers,
   burst-answers-first,
   svg-answers-first,
+  clamp-answers-first,
+  unclamp-answers-first,
 )
 
 pub results-handed-over : ResultsHandedOver
@@ -188,14 +200,29 @@ bursts-read-as-joined = (fed-reads-as-joined, fed-is-held, end-determined, fed-h
 pub bursts-are-kept : BurstsAreKept
 bursts-are-kept = (burst-is-kept, short-list-kept, empty-burst-changes-nothing)
 
+pub curve-determines-polygon : CurveDeterminesPolygon
+curve-determines-polygon = (curve-fixes-carriers, curve-fixes-polygon)
+
+pub clamping-keeps-curve : ClampingKeepsCurve
+clamping-keeps-curve = (clamp-keeps-curve, clamp-exactly)
+
+pub clamped-curve-passes : ClampedCurvePasses
+clamped-curve-passes = (clamped-knots, clamped-passes, clamped-comes-back)
+
+pub unclamping-keeps-curve : UnclampingKeepsCurve
+unclamping-keeps-curve = (unclamp-keeps-curve, unclamp-exactly)
+
+pub unclamped-curve-clamps-back : UnclampedCurveClampsBack
+unclamped-curve-clamps-back = (unclamped-by-index, unclamped-clamps-back)
+
 pub curves-cut-at-knots : CurvesCutAtKnots
 curves-cut-at-knots = (cuts-counted, cut-passes, cut-keeps-curve, (cut-full, cut-sizes, cut-knots), cut-number-is)
 
 pub pieces-are-the-curve : PiecesAreTheCurve
-pieces-are-the-curve = piece-is-curve
+pieces-are-the-curve = drawn-is-curve
 
 pub pieces-cover-the-curve : PiecesCoverTheCurve
-pieces-cover-the-curve = ((piece-knots, spans-follow), piece-points, pieces-meet, pieces-cover-domain)
+pieces-cover-the-curve = ((piece-knots, spans-follow), (piece-points, piece-is-curve), pieces-meet, pieces-cover-domain)
 
 pub path-data-written : PathDataWritten
 path-data-written = (svg-is-path-data, (svg-within-most, svg-most-reached), success-writes-text, refusal-writes-nothing)

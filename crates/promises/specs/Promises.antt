@@ -52,6 +52,12 @@ use Rattle.cut_whole.specs.Sentences.{CutPasses, CutsCounted, CutFull, CutSizes
 use Rattle.pieces_exact.specs.PieceCurve.{CutKeepsCurve, PieceIsCurve, PiecePoints, PiecesMeet, PiecesCoverDomain}
 use Rattle.svg_whole.specs.Sentences.{SvgIsPathData, SvgWithinMost, SvgMostReached}
 use Rattle.svg_whole.specs.Outcome.{SvgAnswersFirst, SuccessWritesText, RefusalWritesNothing}
+use Rattle.drawn_exact.specs.Drawn.{DrawnIsCurve}
+use Rattle.clamping.specs.Sentences.{ClampAnswersFirst, ClampedKnots, ClampedPasses, ClampedComesBack}
+use Rattle.unclamping.specs.Sentences.{UnclampAnswersFirst, UnclampedByIndex}
+use Rattle.same_polygon.specs.SamePolygon.{CurveFixesCarriers, CurveFixesPolygon}
+use Rattle.ends_exact.specs.Clamping.{ClampKeepsCurve, ClampExactly}
+use Rattle.ends_exact.specs.Unclamping.{UnclampKeepsCurve, UnclampExactly, UnclampedClampsBack}
 use Rattle.knots_exact.specs.SameCurve.{InsertKeepsCurve, RemoveKeepsCurve, CompactKeepsCurve, EditingPasses}
 
 -- "Numbers of refusal": the check answers n exactly when row n applies and no lower row does, and 0 exactly when no row does
@@ -64,6 +70,7 @@ abbrev pub RefusalsAnswerFirst : Type 0
 RefusalsAnswerFirst =
     (EightExactly × AcceptedExactly × CurveJudgedFirst) × InsertionAnswersFirst × RemovalAnswersFirst × CompactionAnswersFirst
     × JoinAnswersFirst × ListAnswersFirst × WriteAnswersFirst × ReadAnswersFirst × JobAnswersFirst × BurstAnswersFirst × SvgAnswersFirst
+    × ClampAnswersFirst × UnclampAnswersFirst
 
 -- "Numbers of refusal": 15 exactly where some list has fewer places than its result; a result stands in front of what was there before, entry for
 -- entry; a refusal leaves all three lists as they were
@@ -162,20 +169,44 @@ JoinedCurveMeetsPoints = JoinMeetsPoints × JoinHasEntries
 abbrev pub MeetingPointsDropOut : Type 0
 MeetingPointsDropOut = MeetingPointsInserted × BothAreOneCurve
 
--- "Out to SVG": each inner knot is inserted as often as it lacks of m times, from left to right, and no other value; the cut curve passes the check, is the
--- same exact curve, and has its knots, by their index, and so many points; the first insertion that fails gives the number, 10 or 11 and no other
+-- "Ends that are not clamped": two polygons on the same knots with the same exact curve over the domain agree in every point that carries a span of it, and are
+-- one where the outer spans are not empty
+abbrev pub CurveDeterminesPolygon : Type 0
+CurveDeterminesPolygon = CurveFixesCarriers × CurveFixesPolygon
+
+-- "Ends that are not clamped": the clamped curve is the old one over the domain; it is handed out exactly where some polygon of whole points on its knots is, and
+-- is the only one
+abbrev pub ClampingKeepsCurve : Type 0
+ClampingKeepsCurve = ClampKeepsCurve × ClampExactly
+
+-- "Ends that are not clamped": its knots are the inner ones as often as before and each end m+1 times; it passes the check; and a clamped curve comes back as it was
+abbrev pub ClampedCurvePasses : Type 0
+ClampedCurvePasses = ClampedKnots × ClampedPasses × ClampedComesBack
+
+-- "Ends that are not clamped": the unclamped curve is the old one over the domain; it is handed out exactly where some polygon on the grid is, with all points but
+-- the last m as they were, and is the only one
+abbrev pub UnclampingKeepsCurve : Type 0
+UnclampingKeepsCurve = UnclampKeepsCurve × UnclampExactly
+
+-- "Ends that are not clamped": its knots and points, by their index; and clamping gives a curve with clamped ends back
+abbrev pub UnclampedCurveClampsBack : Type 0
+UnclampedCurveClampsBack = UnclampedByIndex × UnclampedClampsBack
+
+-- "Out to SVG": of a curve with clamped ends each inner knot is inserted as often as it lacks of m times, from left to right, and no other value; the cut curve
+-- passes the check, is the same exact curve, and has its knots, by their index, and so many points; the first insertion that fails gives the number, 10 or 11 and
+-- no other
 abbrev pub CurvesCutAtKnots : Type 0
 CurvesCutAtKnots = CutsCounted × CutPasses × CutKeepsCurve × (CutFull × CutSizes × CutKnots) × CutNumberIs
 
--- "Out to SVG": for every curve that is cut and every fraction between the two knots of a piece, both ends included, the Bezier point of the piece's own points
--- is the exact point of the curve, on both axes
+-- "Out to SVG": of any curve that is not refused, with clamped ends or open ones, there is a piece for each span that is not empty, between its two knots; at every
+-- fraction between these, both included, the Bezier point of the piece's own points is the exact point of the curve, on both axes; and neighbours meet
 abbrev pub PiecesAreTheCurve : Type 0
-PiecesAreTheCurve = PieceIsCurve
+PiecesAreTheCurve = DrawnIsCurve
 
--- "Out to SVG": there is a piece for each span that is not empty, between its two knots; a piece has m + 1 points of the cut curve and (0,0) in the other places;
--- neighbours meet, and all together go from end to end of the domain
+-- "Out to SVG": the pieces of a curve with clamped ends, such as the copy that is drawn: one for each span that is not empty, with m + 1 points of the cut curve and
+-- (0,0) in the other places; and all together go from end to end of the domain
 abbrev pub PiecesCoverTheCurve : Type 0
-PiecesCoverTheCurve = (PieceKnots × SpansFollow) × PiecePoints × PiecesMeet × PiecesCoverDomain
+PiecesCoverTheCurve = (PieceKnots × SpansFollow) × (PiecePoints × PieceIsCurve) × PiecesMeet × PiecesCoverDomain
 
 -- "Out to SVG": what is written is of the grammar of path data and at most 18,431 bytes long, which some curve's is; it stands in front of what the list held,
 -- and a refusal leaves the list as it was
