@@ -33,6 +33,7 @@ drawNumber m c = drawThen m c accepted
 abbrev pub fitting : List ℕ → List ℕ → ℕ  -- 15 where the lent list is shorter than the text
 fitting text out = unless (leb (length text) (length out)) roomRefused accepted
 
+-- the number of the call: these, then 15; 0 where nothing is refused
 unfoldable pub svgNumber : ℕ → Lists → List ℕ → ℕ
 svgNumber m c out = drawThen m c (fitting (svgText m c) out)
 
@@ -41,5 +42,5 @@ pub record TextOutcome (number : ℕ) (text before : List ℕ) (answer : SvgAnsw
   pub answers : answer ≡ answered Written Refused number (length text)
   pub hands : now ≡ after number text before
 
-abbrev pub SvgOutcome : ℕ → Lists → List ℕ → SvgAnswer → List ℕ → Type 0
+abbrev pub SvgOutcome : ℕ → Lists → List ℕ → SvgAnswer → List ℕ → Type 0  -- for any curve
 SvgOutcome m c before answer now = TextOutcome (svgNumber m c before) (svgText m c) before answer now

@@ -46,7 +46,7 @@ fn write_checked(m: usize, knots: &[u16], xs: &[i32], ys: &[i32], out: &mut [u8]
     SvgAnswer::Written(length)
 }
 
-// Whether both ends are clamped. Knots never fall, so an end is where its outermost knot is the domain's.
+// Whether both ends are clamped. Knots never fall, so it is enough that the outermost knot of an end is the domain's.
 fn ends_clamped(m: usize, knots: &[u16], count: usize) -> bool
     requires { ⌜ NeverFall (now knots) ⌝ }
     requires { ⌜ length (now knots) ≡ count + m + 1 ⌝ }
