@@ -9,14 +9,17 @@
  * A CURVE is four things, handed over in this order by every call that takes one:
  *
  *   degree          1, 2 or 3
- *   knots           numbers from 0 to 16383 that never fall; one for each point and degree + 1 more.
- *                   The first degree + 1 are equal, the last degree + 1 are equal, and the first is below
- *                   the last; the end values stand nowhere else, and no value between them stands more
- *                   than degree times
+ *   knots           t_0, t_1, .., numbers from 0 to 16383 that never fall; one for each point and degree + 1
+ *                   more. With m for the degree and n + 1 points, t_m is below t_{n+1}; a value strictly
+ *                   between these two stands at most m times among all knots, any other at most m + 1 times
  *   xs, ys          the coordinates of the control points, as many x as y: at least degree + 1 points and
  *                   at most 1024. Each coordinate lies from -262144 to 262144
  *
- * The curve is defined for parameters from the first knot to the last, both included.
+ * The curve is defined on its DOMAIN, the parameters from t_m = knots[degree] to t_{n+1} = knots[xs_len], both included.
+ * Its left end is clamped where the first degree + 1 knots are equal, and the curve then begins at its first control
+ * point; its right end where the last degree + 1 are, and the curve ends at its last one. An end may as well be open: the
+ * knots and points beyond it shape the curve inside the domain and no further. Only values strictly inside the domain are
+ * inserted and removed. (A job's clamps have nothing to do with clamped ends: they are rectangles.)
  * No curve has to be checked beforehand: every call judges what it is given and refuses what is no curve.
  *
  * THE RESULT of every function is a refusal number: 0 (TSB_OK) if the call was carried out, else the number
@@ -52,8 +55,9 @@
  *   - nothing else reads or writes these places while the call runs;
  *   - a list of length 0 may be a null pointer; any other may not;
  *   - a length counts entries, not bytes, and a list is at most 2^63 - 1 bytes;
- *   - the stack reaches: under 272 bytes for most calls, under 1100 for tsb_svg, which cuts a piece at a time, under
- *     11 KiB for tsb_remove, tsb_compact, both readers and tsb_feed_end, each of which holds a curve while it works.
+ *   - the stack reaches: under 304 bytes for most calls, under 480 for tsb_clamp_ends, under 11 KiB for tsb_remove,
+ *     tsb_compact, both readers and tsb_feed_end, each of which holds a curve while it works, under 12 KiB for tsb_svg,
+ *     which holds the copy that it clamps and cuts this a piece at a time, and takes as much for any curve.
  *     docs/BENCHMARKS.md has the bytes of each call.
  */
 #ifndef TSAGHNOBIR_H
@@ -81,8 +85,15 @@
  * A radius above 4096 is refused by 22, which is new. The stack of tsb_spans is 264 bytes, where it was 232.
  * Version 6: tsb_svg, for a curve as path data of SVG, and TSB_SVG_MOST. Nothing else changed: a caller of version 5 has
  * nothing to do.
+ * Version 7: ends need not be clamped. 5 refuses an empty domain alone, which begins at knots[degree] and ends at
+ * knots[xs_len]; 6 lets an end of the domain and any value outside it stand degree + 1 times; 9 and 12 ask for a value
+ * strictly inside the domain. Whatever passed before passes, with the same answers, and curves that were refused by 5 or 6
+ * now pass: a caller of version 6 who counts on a first control point where the curve begins, say of a job that was read,
+ * hands the curve to tsb_clamp_ends, which is new and gives a clamped curve back as it is. tsb_unclamp_right is new too,
+ * and so is 23, which it alone gives. tsb_svg clamps a copy first, and gives 11 too where a point of this copy is not
+ * whole; its stack is under 12 KiB, where it was under 1100 bytes. Most other calls take 32 bytes more of stack.
  */
-#define TSB_API_VERSION 6
+#define TSB_API_VERSION 7
 
 /* The limits, and places that are always enough for a result. */
 #define TSB_POINTS_MOST 1024       /* points of a curve */
@@ -104,14 +115,15 @@ enum tsb_refusal {
     TSB_POINT_COUNT = 2,    /* xs and ys differ in length, or hold fewer than degree + 1 or more than 1024 points */
     TSB_KNOT_COUNT = 3,     /* the number of knots is not that of the points + degree + 1 */
     TSB_KNOT_ORDER = 4,     /* a knot is above 16383 or below the knot before it */
-    TSB_ENDS = 5,           /* the first or the last degree + 1 knots are not all equal, or first and last knot are equal */
-    TSB_REPEATS = 6,        /* an end value stands more than degree + 1 times, or another value more than degree times */
+    TSB_ENDS = 5,           /* the domain is empty: knots[degree] is not below knots[xs_len] */
+    TSB_REPEATS = 6,        /* a value strictly inside the domain stands more than degree times among all knots, or any
+                               other value, an end of the domain or one outside it, more than degree + 1 times */
     TSB_RANGE = 7,          /* a coordinate or a tangent lies beyond +-262144 */
     TSB_PARAMETER = 8,      /* the parameter lies outside the curve's domain */
-    TSB_INSERTION = 9,      /* insertion: the value is not strictly between the ends, or stands there degree times already */
+    TSB_INSERTION = 9,      /* insertion: the value is not strictly inside the domain, or stands degree times already */
     TSB_FULL = 10,          /* insertion, path data: the curve to insert into has 1024 points already */
-    TSB_NOT_WHOLE = 11,     /* inserting, joining, path data: a new coordinate would fall between two grid lines */
-    TSB_NOT_INNER = 12,     /* removal: the value is no knot strictly between the ends */
+    TSB_NOT_WHOLE = 11,     /* inserting, joining, clamping, path data: a new coordinate would fall between two grid lines */
+    TSB_NOT_INNER = 12,     /* removal: the value is no knot strictly inside the domain */
     TSB_NOT_REMOVABLE = 13, /* removal: no whole points within range give the old curve with the value inserted again */
     TSB_RECTANGLE = 14,     /* a rectangle's low side lies above its high side, or a side beyond +-262144 */
     TSB_ROOM = 15,          /* a result list has too few places, or a work list fewer than TSB_WORK_MOST */
@@ -122,7 +134,9 @@ enum tsb_refusal {
     TSB_TAG = 19,           /* reading: an unexpected tag */
     TSB_LENGTH = 20,        /* reading: a length that the field cannot have */
     TSB_LEFT_OVER = 21,     /* reading: a byte behind a lone record, or behind a job's 64th clamp */
-    TSB_RADIUS = 22         /* the cutter's radius is above 4096 */
+    TSB_RADIUS = 22,        /* the cutter's radius is above 4096 */
+    TSB_UNCLAMP = 23        /* unclamping: the last degree + 1 knots are not all equal, a new knot would lie above 16383, or
+                               no whole points within range on the new knots give the same curve */
 };
 
 /* C++ and compilers before C99 lack the word; where the compiler has its own, it is used. */
@@ -199,9 +213,9 @@ uint32_t tsb_remove(
     size_t *TSB_RESTRICT points);
 
 /*
- * The same curve with the knots gone that can be spared: the inner values from left to right, each removed, as by
- * tsb_remove, as often as that is possible; one pass. The new number of points goes to *points and the number
- * of knots removed to *removed; there are *points + degree + 1 knots. Nothing to remove is no refusal: the curve
+ * The same curve with the knots gone that can be spared: the values strictly inside the domain, from left to right, each
+ * removed, as by tsb_remove, as often as that is possible; one pass. The new number of points goes to *points and the
+ * number of knots removed to *removed; there are *points + degree + 1 knots. Nothing to remove is no refusal: the curve
  * comes back as it is. The lists need places for the result alone.
  * Refused by 1 to 7, then 15.
  */
@@ -214,11 +228,43 @@ uint32_t tsb_compact(
     size_t *TSB_RESTRICT points, size_t *TSB_RESTRICT removed);
 
 /*
- * A curve of degree 3 through spline points: at the parameter params[i] it passes through (px[i], py[i])
- * with the tangent (tx[i], ty[i]), in grid steps per unit of the parameter. With k + 1 spline points the
- * result has 2k + 2 points, whose number goes to *points, and 2k + 6 knots: each end value four times, each
- * parameter between twice. The points are the first spline point, two inner points of each piece, and the last
- * spline point; those where pieces meet are left out, though the curve passes through them. Take this call, unless
+ * The same exact curve with both ends clamped: the knots strictly inside the domain stay as they are, each end of the
+ * domain stands degree + 1 times, and no other knot is left. At an end that was open the outermost degree - 1 points are
+ * new, weighted means of old ones and so within range. Points that carry no part of the domain are gone: there may be
+ * fewer than before, never more. Their number goes to *points, and there are *points + degree + 1 knots. A curve whose
+ * ends are clamped comes back as it is.
+ * Refused by 1 to 7, then 11 (on either axis), then 15 by the places that the result needs.
+ */
+uint32_t tsb_clamp_ends(
+    uint32_t degree, const uint16_t *knots, size_t knots_len,
+    const int32_t *xs, size_t xs_len, const int32_t *ys, size_t ys_len,
+    uint16_t *TSB_RESTRICT out_knots, size_t out_knots_len,
+    int32_t *TSB_RESTRICT out_xs, size_t out_xs_len,
+    int32_t *TSB_RESTRICT out_ys, size_t out_ys_len,
+    size_t *TSB_RESTRICT points);
+
+/*
+ * The same exact curve, over the same domain, with its right end opened, for a curve whose right end is clamped: the degree
+ * knots behind t_{n+1} become t_{n+1} + h, t_{n+1} + 2h and so on, with h = t_{n+1} - t_n, the width of the last span. All
+ * points stay but the last degree - 1, so of degree 1 every one; there are as many knots and points as before, and *points
+ * is xs_len. It is done exactly where some whole points within range, on the new knots and with all but the last degree
+ * points as they were, have the same exact curve; those points are the result.
+ * Refused by 1 to 7, then 23, then 15.
+ */
+uint32_t tsb_unclamp_right(
+    uint32_t degree, const uint16_t *knots, size_t knots_len,
+    const int32_t *xs, size_t xs_len, const int32_t *ys, size_t ys_len,
+    uint16_t *TSB_RESTRICT out_knots, size_t out_knots_len,
+    int32_t *TSB_RESTRICT out_xs, size_t out_xs_len,
+    int32_t *TSB_RESTRICT out_ys, size_t out_ys_len,
+    size_t *TSB_RESTRICT points);
+
+/*
+ * A curve of degree 3 through spline points: at the parameter params[i] it passes through (px[i], py[i]) with the tangent
+ * (tx[i], ty[i]), in grid steps per unit of the parameter. With k + 1 spline points the result has 2k + 2 points, whose
+ * number goes to *points, and 2k + 6 knots: the first and the last parameter four times each, so that its ends are
+ * clamped, each parameter between twice. The points are the first spline point, two inner points of each piece, and the
+ * last spline point; those where pieces meet are left out, though the curve passes through them. Take this call, unless
  * the meeting points are needed among the control points, as by a path planner: for that there is the next one.
  * Refused by 17, then 7, 11, 18, 15: in this order, each judged over all four points of every piece and both axes, so
  * also over those that are left out; 15 by the places that this result needs.
@@ -235,8 +281,8 @@ uint32_t tsb_join(
 /*
  * The same exact curve with the meeting points among its control points, for a path planner: the entry 3i of out_xs and
  * out_ys is the spline point i. With k + 1 spline points the result has 3k + 1 points, whose number goes to *points, and
- * 3k + 5 knots: each end value four times, each parameter between three times. tsb_insert makes it from the result of
- * tsb_join, called once for each parameter between.
+ * 3k + 5 knots: the first and the last parameter four times each, each one between three times. tsb_insert makes it from
+ * the result of tsb_join, called once for each parameter between.
  * Refused by 17, then 7, 11, 18, 15: as by tsb_join, but for 15, which goes by the places that this result needs.
  */
 uint32_t tsb_join_through_points(
@@ -280,9 +326,9 @@ uint32_t tsb_write_record(
     size_t *TSB_RESTRICT length);
 
 /*
- * The curve as path data of SVG 2, the text that a drawing holds as the attribute d of a path: "M x y", the curve's first
- * point, and then for each piece, from left to right, a space and "L x y", "Q x y x y" or "C x y x y x y", by degree 1, 2
- * or 3. One piece of degree 3 may give
+ * The curve as path data of SVG 2, the text that a drawing holds as the attribute d of a path: "M x y", the point at the
+ * left end of the domain, and then for each piece, from left to right, a space and "L x y", "Q x y x y" or
+ * "C x y x y x y", by degree 1, 2 or 3. One piece of degree 3 may give
  *
  *   M 0 0 C 0 8 8 8 8 0
  *
@@ -291,11 +337,13 @@ uint32_t tsb_write_record(
  * of `out`, without a newline or a zero byte at the end, and their number to *length; TSB_SVG_MOST places are always
  * enough.
  *
- * A piece lies between two different neighbouring knots, and as a Bezier curve it is exactly the curve there. Pieces come
- * from inserting the knots between the ends, from left to right, each until it stands degree times, as tsb_insert does it;
+ * A piece lies between two different neighbouring knots of the domain, and as a Bezier curve it is exactly the curve
+ * there. A copy of the curve is clamped at both ends first, as tsb_clamp_ends does it. Pieces come from inserting into the
+ * copy the knots strictly inside the domain, from left to right, each until it stands degree times, as tsb_insert does it;
  * the caller's own curve is not changed. The time grows in proportion to the lists.
- * Refused by 1 to 7. Then by the first insertion that fails: by 10 where the curve has 1024 points by then, else by 11
- * where a new coordinate, on either axis, would not be whole. Then 15.
+ * Refused by 1 to 7. Then by 11 where a coordinate of the clamped copy would not be whole. Then by the first insertion that
+ * fails: by 10 where the copy has 1024 points by then, else by 11 where a new coordinate, on either axis, would not be
+ * whole. Then 15.
  */
 uint32_t tsb_svg(
     uint32_t degree, const uint16_t *knots, size_t knots_len,
