@@ -1,7 +1,8 @@
 /*
- * A tour of the library from C: the point on a curve, a knot inserted and removed, all knots removed that can go,
- * spline points joined by both calls, the spans where a cutter may meet a clamp, curves as path data of SVG, a record written
- * and read back, records and jobs that are broken, with the place where they break, jobs that come in bursts, and some refusals.
+ * A tour of the library from C: the point on a curve, a knot inserted and removed, all knots removed that can go, open ends
+ * clamped and opened again, spline points joined by both calls, the spans where a cutter may meet a clamp, curves as path data
+ * of SVG, a record written and read back, records and jobs that are broken, with the place where they break, jobs that come
+ * in bursts, and some refusals.
  * Build and run: examples/c/build.sh run
  */
 #include <stddef.h>
@@ -36,6 +37,8 @@ struct spline {
 
 static struct curve a = {3, 4, {0, 0, 0, 0, 4, 4, 4, 4}, {0, 0, 8, 8}, {0, 8, 8, 0}};
 static struct curve b = {2, 4, {0, 0, 0, 2, 4, 4, 4}, {0, 4, 8, 12}, {0, 8, 8, 0}};
+static struct curve open_ends = {3, 5, {0, 1, 2, 3, 4, 5, 6, 7, 8}, {0, 6, 12, 18, 24}, {0, 6, 0, 6, 0}};
+static struct curve open_line = {1, 3, {0, 1, 1, 2, 3}, {0, 5, 9}, {0, 5, 7}};
 static struct spline two = {2, {0, 12}, {0, 12}, {0, 0}, {1, 1}, {1, -1}};
 static struct spline three = {3, {0, 3, 9}, {0, 6, 12}, {0, -6, 0}, {1, 1, 1}, {-2, 0, 5}};
 static struct curve result, kept;
@@ -104,6 +107,52 @@ static void print_path(const struct curve *c, size_t places)
         printf(" %.*s\n", (int)length, (const char *)path);
     else
         printf(" refused %u\n", (unsigned)refusal);
+}
+
+/* A curve whose ends were clamped or opened, with its knots. */
+static void print_ends(const char *name, uint32_t refusal)
+{
+    printf("%s:", name);
+    if (refusal != TSB_OK) {
+        printf(" refused %u\n", (unsigned)refusal);
+        return;
+    }
+    for (size_t i = 0; i < result.points + result.degree + 1; i++)
+        printf(" %u", (unsigned)result.knots[i]);
+    printf(",");
+    print_points(&result);
+}
+
+static void print_clamped(const struct curve *c)
+{
+    result.degree = c->degree;
+    print_ends("both ends clamped", tsb_clamp_ends(GIVEN(*c), PLACES(result), &result.points));
+}
+
+static void print_unclamped(const struct curve *c)
+{
+    result.degree = c->degree;
+    print_ends("right end opened", tsb_unclamp_right(GIVEN(*c), PLACES(result), &result.points));
+}
+
+/* Clamped, the curve begins and ends at control points; opened at the right, it has the points there that it had before; clamped again, it is what it was. */
+static void print_open_ends(struct curve *c)
+{
+    printf("curve with open ends: check %u\n", (unsigned)tsb_check(GIVEN(*c)));
+    print_point_at(c, 2); /* its domain goes from 3 to 5 */
+    print_point_at(c, 3);
+    print_inserted(c, 3);
+    print_unclamped(c);
+    print_clamped(c);
+    kept = result;
+    print_clamped(&kept);
+    print_unclamped(&kept);
+    kept = result;
+    print_clamped(&kept);
+    print_path(c, TSB_SVG_MOST); /* of a clamped copy */
+    c->xs[0] = 3;
+    print_clamped(c); /* it would begin at x = 6.5 */
+    print_path(c, TSB_SVG_MOST);
 }
 
 static void print_joined(const char *name, uint32_t refusal)
@@ -343,6 +392,9 @@ int main(void)
     print_removed(&b, 2);
     b.xs[2] = 9;
     print_path(&b, TSB_SVG_MOST); /* they would meet at x = 6.5 */
+
+    print_open_ends(&open_ends);
+    print_clamped(&open_line); /* its first point carries nothing */
 
     print_joined("from 0 to 12", tsb_join(SPLINE(two), PLACES(result), &result.points));
     two.params[1] = 4;
