@@ -4,8 +4,9 @@
 
 OBJDUMP disassembles; FILE is an archive or an object file for x86-64, with a section for each function. A line for each global function (`all`: for each):
 the bytes below its caller's stack pointer, return address included, and the calls on the deepest way. Every instruction that can be reached counts with the
-depth that it is reached with. Of a function that calls itself the most turns must be told. A function of another library (memcpy) counts with its return
-address alone. Code that cannot be followed (a jump through a register, a computed stack pointer) ends the reading: no figure is better than a wrong one.
+depth that it is reached with; a place below the pointer that is read by an index does not, since it was written before. Of a function that calls itself the
+most turns must be told. A function of another library (memcpy) counts with its return address alone. Code that cannot be followed (a jump through a register,
+a computed stack pointer) ends the reading: no figure is better than a wrong one.
 """
 
 import re
@@ -26,6 +27,7 @@ MARK = re.compile(r"^%rsp, (%\w+)$")
 MARK_STEP = re.compile(r"^\$(0x[0-9a-f]+), (%\w+)$")
 MARK_MET = re.compile(r"^(%\w+), %rsp$")
 BELOW = re.compile(r"-(0x[0-9a-f]+)\(%rsp[,)]")
+INDEXED_SOURCE = re.compile(r"-0x[0-9a-f]+\(%rsp,[^)]*\), ")
 PLACE = re.compile(r"^0x[0-9a-f]+$")
 WRITES_POINTER = re.compile(r"(?:^|, )%[er]?spl?$")
 KEEPS_OPERANDS = {"cmpq", "testq"}
@@ -140,7 +142,7 @@ class Stacks:
                 reach += inner - (WORD if operation == "jmp" else 0)
             elif operation == "callq":
                 raise NotFollowed("%s calls %s" % (one.name, operands))
-            else:  # a function that calls nothing may use places below its stack pointer
+            elif operation.startswith("lea") or not INDEXED_SOURCE.search(operands):  # a function that calls nothing may use places below its stack pointer
                 reach += max((int(below, 16) for below in BELOW.findall(operands)), default=0)
             if (reach, len(calls)) > (most, len(way)):
                 most, way = reach, calls
