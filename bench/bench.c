@@ -1,8 +1,8 @@
 /*
  * The proved library against the same calls written plainly in C, in one process on the same inputs. Both must give the same numbers, lists and
- * places, on broken records and jobs and on random curves as path data too; then each is timed, the two in turn, and the least time of all rounds
- * counts (2,000, or as many as two seconds hold). Prints nanoseconds a call, the ratio, and how the library's time grows with the number of points;
- * then what it takes to feed the bytes of the longest job in few bursts and in many.
+ * places, on broken records and jobs and on random curves too (as path data, clamped and unclamped); then each is timed, the two in turn, and the
+ * least time of all rounds counts (2,000, or as many as two seconds hold). Prints nanoseconds a call, the ratio, and how the library's time grows with
+ * the number of points; then what it takes to feed the bytes of the longest job in few bursts and in many.
  * Build and run: bench/run.sh
  */
 #include <stddef.h>
@@ -12,14 +12,15 @@
 #include <time.h>
 
 #include "plain.h"
+#include "random_ends.h"
 #include "random_paths.h"
 #include "tsaghnobir.h"
 
 enum { ROUNDS = 2000, DEGREE = 3, STEP = 6, PARAMETERS = 16, SIZES = 4, RADIUS = 150, CLAMPS = 8, SPLITS = 7 };
 
-enum call { CHECK, POINT, CARRYING, SPANS, INSERT, JOIN, THROUGH, WRITE, SVG, READ, COMPACT, FEED, CALLS, BURSTS };
+enum call { CHECK, POINT, CARRYING, SPANS, INSERT, CLAMP_ENDS, UNCLAMP, JOIN, THROUGH, WRITE, SVG, READ, COMPACT, FEED, CALLS, BURSTS };
 
-static const char *const names[CALLS] = {"check", "point", "carrying", "spans", "insert", "join", "through", "write", "svg", "read", "compact", "feed"};
+static const char *const names[CALLS] = {"check", "point", "carrying", "spans", "insert", "clamp", "unclamp", "join", "through", "write", "svg", "read", "compact", "feed"};
 static const size_t sizes[SIZES] = {4, 64, 256, 1024};
 
 /* How many bursts, and of how many bytes; the last may be shorter. Each comes behind the ones before it, or each to the front of the list. */
@@ -44,6 +45,7 @@ struct input {
     size_t points, inserted_points, uncut_points, spline_points, length;
     uint16_t knots[TSB_KNOTS_MOST];
     uint16_t inserted_knots[TSB_KNOTS_MOST];
+    uint16_t open_knots[TSB_KNOTS_MOST];
     uint16_t uncut_knots[TSB_KNOTS_MOST];
     int32_t xs[TSB_POINTS_MOST], ys[TSB_POINTS_MOST];
     int32_t slack_xs[TSB_POINTS_MOST], slack_ys[TSB_POINTS_MOST];
@@ -78,6 +80,7 @@ static struct output by_library, by_plain;
 #define FOR_INSERTION \
     DEGREE, in.inserted_knots, in.inserted_points + DEGREE + 1, in.xs, in.inserted_points, in.ys, in.inserted_points
 #define UNCUT DEGREE, in.uncut_knots, in.uncut_points + DEGREE + 1, in.xs, in.uncut_points, in.ys, in.uncut_points
+#define OPEN DEGREE, in.open_knots, in.points + DEGREE + 1, in.xs, in.points, in.ys, in.points
 #define SLACK DEGREE, in.knots, in.points + DEGREE + 1, in.slack_xs, in.points, in.slack_ys, in.points
 #define SPLINE \
     in.params, in.spline_points, in.px, in.spline_points, in.py, in.spline_points, in.tx, in.spline_points, in.ty, in.spline_points
@@ -122,6 +125,8 @@ FEEDING(plain)
             case CARRYING: refusal |= side##_carrying(GIVEN, in.ts[k % PARAMETERS], &out->place); break;                    \
             case SPANS: refusal |= side##_spans(GIVEN, CLAMP, RADIUS, out->lows, TSB_POINTS_MOST, out->highs, TSB_POINTS_MOST, &out->count); break; \
             case INSERT: refusal |= side##_insert(FOR_INSERTION, in.v, PLACES, &out->count); break;                         \
+            case CLAMP_ENDS: refusal |= side##_clamp_ends(OPEN, PLACES, &out->count); break;                                \
+            case UNCLAMP: refusal |= side##_unclamp_right(SLACK, PLACES, &out->count); break;                               \
             case JOIN: refusal |= side##_join(SPLINE, PLACES, &out->count); break;                                          \
             case THROUGH: refusal |= side##_join_through_points(SPLINE, PLACES, &out->count); break;                        \
             case WRITE: refusal |= side##_write_record(GIVEN, out->bytes, TSB_RECORD_MOST, &out->count); break;             \
@@ -150,8 +155,8 @@ static uint32_t dice(void)
     return thrown(&state);
 }
 
-/* Random paths have dice of their own, so that the curves that are timed do not depend on them. */
-static uint32_t dice_of_paths(void)
+/* Random curves have dice of their own, so that the curves that are timed do not depend on them. */
+static uint32_t other_dice(void)
 {
     static uint32_t state = 1;
     return thrown(&state);
@@ -198,6 +203,8 @@ static void fill_input(size_t points)
     fill_knots(in.knots, points);
     fill_knots(in.inserted_knots, in.inserted_points);
     fill_knots(in.uncut_knots, in.uncut_points);
+    for (size_t i = 0; i < points + DEGREE + 1; i++)
+        in.open_knots[i] = (uint16_t)(STEP * i);
     for (size_t i = 0; i < points; i++) {
         in.xs[i] = coordinate();
         in.ys[i] = coordinate();
@@ -371,8 +378,8 @@ int main(void)
 {
     static double library[CALLS][SIZES], plain[CALLS][SIZES];
 
-    if (!random_paths_agree(dice_of_paths)) {
-        printf("the two sides differ on a random curve as path data\n");
+    if (!random_paths_agree(other_dice) || !random_ends_agree(other_dice)) {
+        printf("the two sides differ on a random curve\n");
         return 1;
     }
     for (size_t s = 0; s < SIZES; s++) {

@@ -27,7 +27,7 @@ chmod u+rw "$own/module.bc"
 
 # both sides by the same compiler: the library at -O3, as the kit compiles it, the plain C at -O2
 "$clang" --target="$machine-linux-gnu" -Wno-override-module -O3 -fPIE -c -x ir "$own/module.bc" -o "$own/library.o" 2>"$own/clang.log"
-for file in bench random_paths plain_curve plain_knots plain_join plain_record plain_svg plain_feed; do
+for file in bench random_curve random_paths random_ends plain_curve plain_knots plain_ends plain_join plain_record plain_svg plain_feed; do
     "$clang" --target="$machine-linux-gnu" -std=c99 -Wall -Wextra -O2 -ffp-contract=off -fPIE \
         -nostdinc -isystem examples/c/libc -Iinclude -c "bench/$file.c" -o "$own/$file.o"
 done

@@ -21,6 +21,8 @@ uint32_t plain_point(CURVE, uint32_t t, double *restrict x, double *restrict y);
 uint32_t plain_carrying(CURVE, uint32_t t, size_t *restrict first);
 uint32_t plain_insert(CURVE, uint32_t v, LISTS, size_t *restrict points);
 uint32_t plain_compact(CURVE, LISTS, size_t *restrict points, size_t *restrict removed);
+uint32_t plain_clamp_ends(CURVE, LISTS, size_t *restrict points);
+uint32_t plain_unclamp_right(CURVE, LISTS, size_t *restrict points);
 uint32_t plain_join(SPLINE_POINTS, LISTS, size_t *restrict points);
 uint32_t plain_join_through_points(SPLINE_POINTS, LISTS, size_t *restrict points);
 uint32_t plain_spans(
@@ -34,5 +36,11 @@ uint32_t plain_read_job(const uint8_t *bytes, size_t bytes_len, JOB);
 uint32_t plain_feed(
     const uint8_t *burst, size_t burst_len, uint8_t *restrict work, size_t work_len, size_t *restrict received);
 uint32_t plain_feed_end(const uint8_t *work, size_t work_len, JOB, size_t *restrict received);
+
+/* The largest span from m on that begins at or before t and is not empty. */
+size_t plain_span(const uint16_t *knots, size_t m, size_t points, uint32_t t);
+
+/* Clamping of a curve that has passed the check. */
+uint32_t plain_clamp_checked(CURVE, LISTS, size_t *restrict points);
 
 #endif

@@ -28,14 +28,20 @@ static int falls(const uint16_t *knots, size_t count)
     return found;
 }
 
-/* Whether a value stands too often, where no knot falls and the ends are m + 1 equal knots: the first and the last one do not count. */
-static int repeats(const uint16_t *knots, size_t m, size_t count)
+/* Whether a knot from `first` on and before `past` equals the one `back` places before it: where no knot falls, its value stands more than `back` times. */
+static int again(const uint16_t *knots, size_t first, size_t past, size_t back)
 {
     int found = 0;
-    for (size_t i = m + 1; i < count - 1; i++)
-        if (knots[i] == knots[i - m])
+    for (size_t i = first; i < past; i++)
+        if (knots[i] == knots[i - back])
             found = 1;
     return found;
+}
+
+/* Strictly inside the domain a value may stand m times, elsewhere m + 1 times; an end of the domain that reaches further in than that stands m + 2 times. */
+static int repeats(const uint16_t *knots, size_t m, size_t points)
+{
+    return again(knots, m + 1, 2 * m + 1, m + 1) || again(knots, points + 1, points + m + 1, m + 1) || again(knots, 2 * m + 1, points, m);
 }
 
 uint32_t plain_check(CURVE)
@@ -47,12 +53,11 @@ uint32_t plain_check(CURVE)
         return TSB_POINT_COUNT;
     if (knots_len != xs_len + m + 1)
         return TSB_KNOT_COUNT;
-    uint16_t first = knots[0], last = knots[knots_len - 1];
-    if (falls(knots, knots_len) || last > TSB_KNOT_MOST)
+    if (falls(knots, knots_len) || knots[knots_len - 1] > TSB_KNOT_MOST)
         return TSB_KNOT_ORDER;
-    if (knots[m] != first || knots[knots_len - 1 - m] != last || first == last)
+    if (knots[m] >= knots[xs_len])
         return TSB_ENDS;
-    if (repeats(knots, m, knots_len))
+    if (repeats(knots, m, xs_len))
         return TSB_REPEATS;
     if (!all_on_grid(xs, xs_len) || !all_on_grid(ys, ys_len))
         return TSB_RANGE;
@@ -70,8 +75,7 @@ static uint32_t check_parameter(CURVE, uint32_t t)
     return TSB_OK;
 }
 
-/* The largest span from m on that begins at or before t and is not empty. */
-static size_t span_of(const uint16_t *knots, size_t m, size_t points, uint32_t t)
+size_t plain_span(const uint16_t *knots, size_t m, size_t points, uint32_t t)
 {
     size_t i = points - 1;
     while (i > m && !(knots[i] <= t && knots[i] < knots[i + 1]))
@@ -98,7 +102,7 @@ uint32_t plain_point(CURVE, uint32_t t, double *restrict x, double *restrict y)
     uint32_t refusal = check_parameter(degree, knots, knots_len, xs, xs_len, ys, ys_len, t);
     if (refusal != TSB_OK)
         return refusal;
-    size_t i = span_of(knots, degree, xs_len, t);
+    size_t i = plain_span(knots, degree, xs_len, t);
     *x = coordinate(knots, xs, degree, i, (int32_t)t);
     *y = coordinate(knots, ys, degree, i, (int32_t)t);
     return TSB_OK;
@@ -109,7 +113,7 @@ uint32_t plain_carrying(CURVE, uint32_t t, size_t *restrict first)
     uint32_t refusal = check_parameter(degree, knots, knots_len, xs, xs_len, ys, ys_len, t);
     if (refusal != TSB_OK)
         return refusal;
-    *first = span_of(knots, degree, xs_len, t) - degree;
+    *first = plain_span(knots, degree, xs_len, t) - degree;
     return TSB_OK;
 }
 

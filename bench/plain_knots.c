@@ -137,7 +137,9 @@ uint32_t plain_compact(CURVE, LISTS, size_t *restrict points, size_t *restrict r
     memcpy(w.xs, xs, xs_len * sizeof *xs);
     memcpy(w.ys, ys, ys_len * sizeof *ys);
     size_t at = w.m + 1;
-    while (at < w.points) {
+    while (w.knots[at] == w.knots[w.m])
+        at++;
+    while (w.knots[at] < w.knots[w.points]) {
         size_t times = 1;
         while (w.knots[at + times] == w.knots[at])
             times++;

@@ -1,6 +1,6 @@
 /*
- * Path data, written plainly: one walk over the spans cuts each of them into its piece and puts this behind the text so far. The text is made in work
- * space and copied when it is whole, since the last span may be refused as well as the first.
+ * Path data, written plainly: one walk over the spans of the clamped curve cuts each of them into its piece and puts this behind the text so far. The text is
+ * made in work space and copied when it is whole, since the last span may be refused as well as the first.
  */
 #include <string.h>
 
@@ -83,23 +83,22 @@ static uint8_t *put_piece(uint8_t *at, const struct axis *x, const struct axis *
     return at;
 }
 
-uint32_t plain_svg(CURVE, uint8_t *restrict out, size_t out_len, size_t *restrict length)
+/* The pieces of a curve with clamped ends. */
+static uint32_t put_pieces(
+    size_t m, const uint16_t *knots, const int32_t *xs, const int32_t *ys, size_t count, uint8_t *restrict out, size_t out_len, size_t *restrict length)
 {
-    uint32_t refusal = plain_check(degree, knots, knots_len, xs, xs_len, ys, ys_len);
-    if (refusal != TSB_OK)
-        return refusal;
-    size_t m = degree, points = xs_len, i = m;
+    size_t points = count, i = m;
     struct axis x = {.ps = xs}, y = {.ps = ys};
     uint8_t text[TSB_SVG_MOST], *at = text;
     memcpy(x.row, xs, (m + 1) * sizeof *xs);
     memcpy(y.row, ys, (m + 1) * sizeof *ys);
     *at++ = 'M';
     at = put_point(at, &x, &y, 0);
-    while (i + 1 < xs_len) {
+    while (i + 1 < count) {
         size_t s = 1;
         while (knots[i + 1 + s] == knots[i + 1])
             s++;
-        refusal = cut(&x, &y, m, knots, i, s, &points);
+        uint32_t refusal = cut(&x, &y, m, knots, i, s, &points);
         if (refusal != TSB_OK)
             return refusal;
         at = put_piece(at, &x, &y, m);
@@ -114,4 +113,21 @@ uint32_t plain_svg(CURVE, uint8_t *restrict out, size_t out_len, size_t *restric
     memcpy(out, text, size);
     *length = size;
     return TSB_OK;
+}
+
+uint32_t plain_svg(CURVE, uint8_t *restrict out, size_t out_len, size_t *restrict length)
+{
+    uint32_t refusal = plain_check(degree, knots, knots_len, xs, xs_len, ys, ys_len);
+    if (refusal != TSB_OK)
+        return refusal;
+    if (knots[0] == knots[degree] && knots[xs_len] == knots[knots_len - 1])
+        return put_pieces(degree, knots, xs, ys, xs_len, out, out_len, length);
+    uint16_t ts[TSB_KNOTS_MOST];
+    int32_t us[TSB_POINTS_MOST], vs[TSB_POINTS_MOST];
+    size_t points;
+    refusal = plain_clamp_checked(
+        degree, knots, knots_len, xs, xs_len, ys, ys_len, ts, TSB_KNOTS_MOST, us, TSB_POINTS_MOST, vs, TSB_POINTS_MOST, &points);
+    if (refusal != TSB_OK)
+        return refusal;
+    return put_pieces(degree, ts, us, vs, points, out, out_len, length);
 }
