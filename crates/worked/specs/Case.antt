@@ -31,6 +31,10 @@ use Rattle.remove_knot.specs.declared.RemoveAnswer.the-variants.{Removed, Refus
 use Rattle.joining.specs.SplinePoints.{SplinePoints}
 use Rattle.joining.specs.Answer.{JoinOutcome}
 use Rattle.joining.specs.declared.JoinAnswer.the-variants.{Joined, Refused as JoinRefused}
+use Rattle.clamp_ends.specs.Answer.{ClampOutcome}
+use Rattle.clamp_ends.specs.declared.ClampAnswer.the-variants.{Clamped, Refused as ClampRefused}
+use Rattle.unclamp_right.specs.Answer.{UnclampOutcome}
+use Rattle.unclamp_right.specs.declared.UnclampAnswer.the-variants.{Unclamped, Refused as UnclampRefused}
 
 -- coordinates that are not below zero
 abbrev pub whole : List ℕ → List ℤ
@@ -72,6 +76,12 @@ pub data Case : Type 0 where
   -- spline points joined, with so many knots where pieces meet, are a curve of degree 3; or that is refused
   joined : ℕ → SplinePoints → Lists → Case
   joinedNot : ℕ → SplinePoints → ℕ → Case
+  -- a curve with both ends clamped is another curve; or that is refused
+  fullEnds : ℕ → Lists → Lists → Case
+  fullEndsNot : ℕ → Lists → ℕ → Case
+  -- a curve with its right end unclamped is another curve; or that is refused
+  openRight : ℕ → Lists → Lists → Case
+  openRightNot : ℕ → Lists → ℕ → Case
 
 -- zeros in the places of a curve's lists
 abbrev pub placesOf : Lists → Lists
@@ -106,6 +116,10 @@ Holds (removed m c v d) = RemovalOutcome m c v (placesOf d) (Removed (length (d 
 Holds (removedNot m c v n) = RemovalOutcome m c v noPlaces (RemoveRefused n) noPlaces
 Holds (joined inner s d) = JoinOutcome inner s (placesOf d) (Joined (length (d .xs))) d
 Holds (joinedNot inner s n) = JoinOutcome inner s noPlaces (JoinRefused n) noPlaces
+Holds (fullEnds m c d) = ClampOutcome m c (placesOf d) (Clamped (length (d .xs))) d
+Holds (fullEndsNot m c n) = ClampOutcome m c noPlaces (ClampRefused n) noPlaces
+Holds (openRight m c d) = UnclampOutcome m c (placesOf d) (Unclamped (length (d .xs))) d
+Holds (openRightNot m c n) = UnclampOutcome m c noPlaces (UnclampRefused n) noPlaces
 
 -- each of a list holds
 abbrev pub AllHold : List Case → Type 0

@@ -9,7 +9,7 @@ use Rattle.point_at.specs.declared.PointAnswer.the-variants.{Refused}
 use Rattle.carrying.specs.declared.Axis.the-variants.{X, Y}
 use Rattle.boxes.specs.declared.Rectangle.{Rectangle}
 use Rattle.span_walk.specs.SpanLists.{spanLists}
-use Rattle.worked.specs.Case.{Case, pointAt, carried, carriedNot, spansListed, spansNot, recorded, compacted, inserted, insertedNot, removed, removedNot, joined, joinedNot, whole, at}
+use Rattle.worked.specs.Case.{Case, pointAt, carried, carriedNot, spansListed, spansNot, recorded, compacted, inserted, insertedNot, removed, removedNot, joined, joinedNot, fullEnds, fullEndsNot, openRight, openRightNot, whole, at}
 
 -- a curve whose coordinates are not below zero
 abbrev pub curve : List ℕ → List ℕ → List ℕ → Lists
@@ -90,6 +90,17 @@ dipThroughPoints =
     lists (0 ∷ 0 ∷ 0 ∷ 0 ∷ 3 ∷ 3 ∷ 3 ∷ 9 ∷ 9 ∷ 9 ∷ 9 ∷ []) (whole (0 ∷ 1 ∷ 5 ∷ 6 ∷ 8 ∷ 10 ∷ 12 ∷ []))
     (pos 0 ∷ negsuc 1 ∷ negsuc 5 ∷ negsuc 5 ∷ negsuc 5 ∷ negsuc 9 ∷ pos 0 ∷ [])
 
+-- a cubic on the knots 0 to 7, with the domain 3 to 4: points (0,6) (12,0) (0,6) (12,0); and with clamped ends
+abbrev pub evenCubic : Lists
+evenCubic = curve (0 ∷ 1 ∷ 2 ∷ 3 ∷ 4 ∷ 5 ∷ 6 ∷ 7 ∷ []) (0 ∷ 12 ∷ 0 ∷ 12 ∷ []) (6 ∷ 0 ∷ 6 ∷ 0 ∷ [])
+
+abbrev pub evenCubic-full : Lists
+evenCubic-full = curve (3 ∷ 3 ∷ 3 ∷ 3 ∷ 4 ∷ 4 ∷ 4 ∷ 4 ∷ []) (8 ∷ 8 ∷ 4 ∷ 4 ∷ []) (2 ∷ 2 ∷ 4 ∷ 4 ∷ [])
+
+-- B with its right end open: the knots go on in steps of 2
+abbrev pub curveB-open : Lists
+curveB-open = lists (0 ∷ 0 ∷ 0 ∷ 2 ∷ 4 ∷ 6 ∷ 8 ∷ []) (whole (0 ∷ 4 ∷ 8 ∷ 16 ∷ [])) (pos 0 ∷ pos 8 ∷ pos 8 ∷ negsuc 7 ∷ [])
+
 abbrev pub cases : List Case
 cases =
     -- A at 0 is (0, 0)
@@ -157,4 +168,11 @@ cases =
     ∷ joined innerTwice dip dipJoined
     ∷ joined innerThrice dip dipThroughPoints
     ∷ inserted 3 dipJoined 3 dipThroughPoints
+    -- the cubic on evenly spaced knots clamped, and the parabola with its first point one higher: 11
+    ∷ fullEnds 3 evenCubic evenCubic-full
+    ∷ fullEndsNot 2 (curve (0 ∷ 1 ∷ 2 ∷ 3 ∷ 4 ∷ 5 ∷ []) (1 ∷ 2 ∷ 4 ∷ []) (0 ∷ 0 ∷ 0 ∷ [])) 11
+    -- B unclamped at its right end: its last point is 2·(12,0) - (8,8); clamping gives B back, and unclamping once more is 23
+    ∷ openRight 2 curveB curveB-open
+    ∷ fullEnds 2 curveB-open curveB
+    ∷ openRightNot 2 curveB-open 23
     ∷ []
