@@ -1,20 +1,16 @@
--- A knot of a clamped curve: the first value of the domain, the last, or an old knot.
+-- A clamped curve keeps its knots but the first m and the last m.
 use mathlib.Core.List.{List}
-use mathlib.Core.Path.{_≡_}
-use Prim.Native.Nat.{ℕ, _≤_, _<_}
-use lib.ListN.{getD}
-use borrow.Author.Tests.{le-leb, lt-leb}
-use Rattle.clamping.specs.Clamping.{clampedKnot}
+use mathlib.Core.Path.{_≡_, sym}
+use Prim.Native.Nat.{ℕ, _+_, _≤_, _<_}
+use native.Mathlib.Omega.{arith}
+use lib.ListN.{length, getD}
+use Rattle.insertion.proofs.OrderLaws.{either}
+use Rattle.clamping.proofs.KnotLaws.{KnotsClamped}
 
-module _ (m : ℕ) (ts : List ℕ) (count j : ℕ) where
-  pub knot-of-start : j ≤ m → getD ts m 0 ≡ clampedKnot m ts count j
-  unfolding clampedKnot
-  knot-of-start h = rw (le-leb j m h)
-
-  pub knot-of-end : m < j → count ≤ j → getD ts count 0 ≡ clampedKnot m ts count j
-  unfolding clampedKnot
-  knot-of-end h l = rw (lt-leb j m h, le-leb count j l)
-
-  pub knot-between : m < j → j < count → getD ts j 0 ≡ clampedKnot m ts count j
-  unfolding clampedKnot
-  knot-between h l = rw (lt-leb j m h, lt-leb count j l)
+pub knots-kept : (m : ℕ) (ts : List ℕ) (count : ℕ) (us : List ℕ) → KnotsClamped m ts count us → (j : ℕ) → m ≤ j → j + m < length us → getD ts j 0 ≡ getD us j 0
+knots-kept m ts count us c j low high =
+    either m j
+    (λ l. either j count
+    (λ u. sym (c .between j l u))
+    (λ u. let here : j ≡ count = omega (arith, c .long) in rw here (sym (c .lasts count (omega arith) (omega (arith, c .long))))))
+    (λ l. let here : j ≡ m = omega arith in rw here (sym (c .firsts m (omega arith))))

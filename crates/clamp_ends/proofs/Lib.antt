@@ -2,5 +2,6 @@
 mod NumberLaws
 mod WholeLaws
 mod KnotLaws
+mod MendLaws
 mod CutLaws
 pub mod AnswerLaws

@@ -9,7 +9,8 @@ use lib.ListN.{length}
 use borrow.Author.Tests.{le-leb, lt-leb}
 use Rattle.insertion.specs.Insertion.{pointAt}
 use Rattle.clamping.specs.EndRows.{whole, endRow, endNumber, startOf, finishOf}
-use Rattle.clamping.specs.Clamping.{clampedNumber, isWhole, wholeOf}
+use Rattle.clamping.specs.Clamping.{clampedNumber, isWhole, wholeOf, clampedPoints}
+use Rattle.clamping.proofs.ClampedLaws.{points-at}
 use Rattle.clamping.proofs.WholeLaws.{whole-of-number, number-only}
 use Rattle.clamp_rows.specs.declared.NearEnd.{NearEnd}
 use Rattle.clamp_rows.specs.Near.{asEnd, Gathered}
@@ -50,3 +51,9 @@ module _ (m : ℕ) (ts : List ℕ) (ps : List ℤ) where
   between j l h u =
       let place : length ps - 1 - (length ps - 1 - j) ≡ j = omega arith in
       at-finish j h ∙ old-point (length ps - 1 - j) u ∙ ap (λ (k : ℕ). whole (pointAt ps k)) place
+
+  -- all points but the first m - 1 and the last m - 1 are kept
+  pub points-kept : (j : ℕ) → m - 1 ≤ j → j + (m - 1) < length ps → pointAt ps j ≡ pointAt (clampedPoints m ts ps) j
+  points-kept j low high =
+      let l : j < length ps = omega arith in
+      sym (points-at m ts ps j l ∙ ap wholeOf (between j l (omega arith) (omega arith)) ∙ point-value (pointAt ps j))

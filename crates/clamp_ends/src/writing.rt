@@ -1,6 +1,6 @@
 // A clamped curve, written to the lent lists: of a curve whose every point carries a span, and whose new points have been judged.
 ghost use mathlib.Core.Path.{_≡_};
-ghost use Prim.Native.Nat.{_≤_, _<_};
+ghost use Prim.Native.Nat.{_+_, _≤_, _<_};
 ghost use lib.ListN.{length};
 ghost use Rattle.curve.specs.HandingOver.{handedOver};
 ghost use Rattle.curve.specs.Lists.{lists};
@@ -24,41 +24,34 @@ fn point_at(m: usize, knots: &[u16], ps: &[i32], j: usize) -> i32
     ps[j]
 }
 
-// All points of one axis.
+// All points of one axis: the old ones, and over them the first m - 1 and the last m - 1.
 fn write_points(m: usize, knots: &[u16], ps: &[i32], out: &mut [i32])
     requires { ⌜ Carries m (now knots) (now ps) × (length (now ps) ≤ length (now out)) ⌝ }
     ensures result { λ _. ⌜ now (out .exit) ≡ over (clampedPoints m (now (knots .entry)) (now (ps .entry))) (now (out .entry)) ⌝ }
 {
-    let mut j = 0;
-    while j < ps.len() {
-        out[j] = point_at(m, knots, ps, j);
-        j += 1;
+    copying::copy_coordinates(ps, out);
+    let mut k = 0;
+    while k + 1 < m {
+        out[k] = point_at(m, knots, ps, k);
+        let far = ps.len() + 1 + k - m;
+        out[far] = point_at(m, knots, ps, far);
+        k += 1;
     }
 }
 
-// Knot j of a curve with `count` points.
-fn knot_at(m: usize, knots: &[u16], count: usize, j: usize) -> u16
-    requires { ⌜ (m < length (now knots)) × (count < length (now knots)) × (j < length (now knots)) ⌝ }
-    ensures answer { λ r. ⌜ r ≡ clampedKnot m (now (knots .entry)) count j ⌝ }
-{
-    if j <= m {
-        return knots[m];
-    }
-    if count <= j {
-        return knots[count];
-    }
-    knots[j]
-}
-
-// All knots.
+// All knots of a curve with `count` points: the old ones, and over them the m first and the m last.
 fn write_knots(m: usize, knots: &[u16], count: usize, out: &mut [u16])
-    requires { ⌜ (m < length (now knots)) × (count < length (now knots)) × (length (now knots) ≤ length (now out)) ⌝ }
+    requires { ⌜ (m < count) × (length (now knots) ≡ count + m + 1) × (length (now knots) ≤ length (now out)) ⌝ }
     ensures result { λ _. ⌜ now (out .exit) ≡ over (entries (clampedKnot m (now (knots .entry)) count) (length (now (knots .entry)))) (now (out .entry)) ⌝ }
 {
-    let mut j = 0;
-    while j < knots.len() {
-        out[j] = knot_at(m, knots, count, j);
-        j += 1;
+    copying::copy_knots(knots, out);
+    let first = knots[m];
+    let last = knots[count];
+    let mut k = 0;
+    while k < m {
+        out[k] = first;
+        out[count + 1 + k] = last;
+        k += 1;
     }
 }
 
