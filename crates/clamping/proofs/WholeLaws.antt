@@ -40,7 +40,7 @@ module _ (f : ℕ → Share) where
   whole-of-each zero each = refl
   whole-of-each (suc count) each = rw (whole-of-each count (λ j l. each j (omega arith)), each count (omega arith))
 
-  one-not : (count : ℕ) → allWhole f count ≡ false → (j : ℕ) × (j < count) × (isWhole (f j) ≡ false)
+  pub one-not : (count : ℕ) → allWhole f count ≡ false → (j : ℕ) × (j < count) × (isWhole (f j) ≡ false)
   unfolding allWhole
   one-not zero h = absurd (true≢false h)
   one-not (suc count) h =

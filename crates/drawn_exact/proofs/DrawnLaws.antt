@@ -33,7 +33,7 @@ use Rattle.pieces_exact.proofs.PieceLaws.{piece-is-curve, pieces-meet}
 use Rattle.ends_exact.proofs.ClampLaws.{whole-keeps}
 use Rattle.svg_out.specs.Svg.{drawNumber}
 use Rattle.svg_whole.proofs.DrawLaws.{draw-passes, draw-whole}
-use Rattle.drawn_exact.specs.Drawn.{DrawnPieces, DrawnIsCurve}
+use Rattle.drawn_exact.specs.Drawn.{DrawnIsCurve}
 use Rattle.drawn_exact.proofs.SpanLaws.{knot-moved, spans-moved}
 
 module _ (m : ℕ) (c : Lists) (past : Piece) (none : drawNumber m c ≡ accepted) where

@@ -14,7 +14,7 @@ use Rattle.fractions.proofs.Rational.{ℚ, class, rational, rationalOperations,
 use Rattle.exact.specs.ExactPoint.{exactCoordinate}
 use Rattle.exact.specs.ExactCurve.{exactAt}
 use Rattle.exact.proofs.ExactLaws.{rationalKnot, rationalCoordinate, rationalParameter, exact-class}
-use Rattle.span.specs.Span.{spanOf, inDomain}
+use Rattle.span.specs.Span.{spanOf}
 use Rattle.curve.specs.Lists.{NeverFall}
 use Rattle.insertion.specs.Insertion.{entries}
 use Rattle.insertion.proofs.EntryLaws.{entries-length}

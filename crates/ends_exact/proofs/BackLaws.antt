@@ -1,7 +1,7 @@
 -- Clamping gives an unclamped curve back: on its clamped knots, which are the old ones, the old points are a polygon with the same exact curve.
 use mathlib.Core.Bool.{true, true≢false}
 use mathlib.Core.List.{List}
-use mathlib.Core.Path.{_≡_, refl, sym, ap, subst, _∙_}
+use mathlib.Core.Path.{_≡_, sym, ap, _∙_}
 use Prim.Native.Nat.{ℕ, _+_, _-_, _≤_, _<_}
 use native.Mathlib.Decide.{decLe}
 use native.Mathlib.Omega.{arith}
@@ -15,13 +15,11 @@ use Rattle.grid.proofs.CheckLaws.{passes-tests}
 use Rattle.grid.proofs.InnerLaws.{again-far}
 use Rattle.checked.specs.Checked.{Checked, Clamped}
 use Rattle.checked.proofs.CheckedLaws.{checked-of-passes}
-use Rattle.fractions.specs.Order.{Equals}
-use Rattle.exact.specs.ExactCurve.{exactAt}
 use Rattle.span.specs.Span.{inDomain}
-use Rattle.clamping.specs.Clamping.{firstSpan, lastSpan, carriersFrom, carriers, carryingPart, clampedKnot, clamped, clampsWhole}
+use Rattle.clamping.specs.Clamping.{firstSpan, lastSpan, carriersFrom, carriers, carryingPart, clamped, clampsWhole}
 use Rattle.clamping.proofs.EndSpanLaws.{EndSpans, end-spans}
 use Rattle.clamping.proofs.PartLaws.{PartFacts, part-of-passes}
-use Rattle.clamping.proofs.KnotLaws.{KnotsClamped, knots-clamped}
+use Rattle.clamping.proofs.KnotLaws.{knots-clamped}
 use Rattle.knots_exact.specs.SameCurve.{SameOnAxis, SameCurve}
 use Rattle.ends_exact.specs.Clamping.{ClampedPolygon}
 use Rattle.ends_exact.proofs.ClampLaws.{clamp-exactly}

@@ -1,9 +1,8 @@
 -- Clamping keeps the exact curve on both axes, and is done exactly where some polygon of whole points does.
 use mathlib.Core.Bool.{true, and-eq-true-iff}
 use mathlib.Core.List.{List}
-use mathlib.Core.Logic.{_↔_}
 use mathlib.Core.Path.{_≡_, refl, sym, ap, subst, _∙_}
-use Prim.Native.Nat.{ℕ, _+_, _-_, _≤_, _<_}
+use Prim.Native.Nat.{ℕ, _+_, _-_, _<_}
 use native.Mathlib.Decide.{ℕ-discrete}
 use native.Mathlib.Omega.{arith}
 use lib.IntN.{ℤ, pos}
@@ -21,7 +20,7 @@ use Rattle.checked.specs.Checked.{Checked}
 use Rattle.checked.proofs.CheckedLaws.{checked-of-passes, passes-of-checked}
 use Rattle.insertion.specs.Insertion.{entries}
 use Rattle.insertion.proofs.EntryLaws.{entries-length}
-use Rattle.clamping.specs.Clamping.{carriersFrom, carriers, carryingPart, clampedKnot, clampedNumber, isWhole, wholeOf, allWhole, clampedPoints, clamped, clampsWhole, clampThen, clampNumber}
+use Rattle.clamping.specs.Clamping.{carriersFrom, carriers, carryingPart, clampedKnot, clampedNumber, isWhole, allWhole, clampedPoints, clamped, clampsWhole, clampThen, clampNumber}
 use Rattle.clamping.proofs.PartLaws.{PartFacts, part-of-passes}
 use Rattle.clamping.proofs.WholeLaws.{whole-of-each}
 use Rattle.clamping.proofs.ClampedLaws.{clamped-passes, points-at, points-length}

@@ -1,8 +1,8 @@
 -- Closed cases: a cubic on evenly spaced knots before and after clamping, and curve B's like unclamped and back.
-use mathlib.Core.List.{List, [], _∷_}
+use mathlib.Core.List.{[], _∷_}
 use mathlib.Core.Path.{_≡_, refl, subst}
 use native.Mathlib.Omega.{arith}
-use lib.IntN.{pos, negsuc}
+use lib.IntN.{pos}
 use Rattle.refusal.specs.Numbers.{accepted}
 use Rattle.signed.specs.Division.{divides}
 use Rattle.fractions.specs.Fraction.{over, sum, product, negation, turned, reciprocal}

@@ -22,7 +22,7 @@ use Rattle.end_rows.proofs.BothKnotLaws.{both-knot-inside, both-rising}
 use Rattle.end_rows.proofs.BothEndLaws.{both-ends-keep}
 use Rattle.end_rows.proofs.StepCurve.{span-stays}
 use Rattle.insertion.specs.Insertion.{entries}
-use Rattle.insertion.proofs.EntryLaws.{entries-length, entries-at}
+use Rattle.insertion.proofs.EntryLaws.{entries-at}
 use Rattle.clamping.specs.Clamping.{clampedKnot, clampedNumber, isWhole, wholeOf, allWhole, clampedPoints}
 use Rattle.clamping.proofs.WholeLaws.{whole-each}
 use Rattle.ends_exact.proofs.ShareLaws.{value, value-of-whole, whole-of-value}

@@ -1,11 +1,10 @@
 -- One axis of an unclamped end: with the unclamped numbers the triangle stays on every span, and whole numbers with which the exact curve stays are these.
-use mathlib.Core.Bool.{true}
 use mathlib.Core.List.{List}
 use mathlib.Core.Path.{_≡_, refl, sym, ap, ap₂, _∙_}
 use Prim.Native.Nat.{ℕ, _+_, _*_, _-_, _≤_, _<_}
 use native.Mathlib.Decide.{decLe}
 use native.Mathlib.Omega.{arith}
-use lib.IntN.{ℤ, pos}
+use lib.IntN.{ℤ}
 use lib.ListN.{length, getD}
 use Rattle.algebra.specs.Operations.{sub}
 use Rattle.algebra.specs.OrderedField.{AtMost, Below}
@@ -28,9 +27,6 @@ use Rattle.curve.specs.Lists.{NeverFall}
 use Rattle.clamping.specs.EndRows.{finishOf}
 use Rattle.unclamping.specs.Unclamping.{openNumber}
 use Rattle.unclamping.proofs.EntryLaws.{number-old}
-use Rattle.knots_exact.specs.SameCurve.{SameOnAxis}
-use Rattle.same_polygon.proofs.AgreeLaws.{WideSpan}
-use Rattle.same_polygon.proofs.PointLaws.{same-entries}
 use Rattle.ends_exact.proofs.ShareLaws.{value, natural-sum}
 use Rattle.ends_exact.proofs.EndLaws.{difference-class}
 use Rattle.ends_exact.proofs.OpenLaws.{whole-value, opened-gives, given-says}

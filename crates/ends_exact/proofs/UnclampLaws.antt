@@ -1,5 +1,5 @@
 -- Unclamping keeps the exact curve on both axes, and is done exactly where some polygon on the grid does.
-use mathlib.Core.Bool.{Bool, true, false, cond, _&&_, and-eq-true-iff}
+use mathlib.Core.Bool.{Bool, true, false, cond, _&&_}
 use mathlib.Core.List.{List}
 use mathlib.Core.Path.{_≡_, refl, sym, ap, subst, _∙_}
 use Prim.Native.Nat.{ℕ, _+_, _-_, _≤_, _<_}
@@ -9,9 +9,7 @@ use lib.Dec.{eqb}
 use lib.IntN.{ℤ, pos}
 use lib.ListN.{length, getD}
 use lib.Seq.{ext-getD}
-use borrow.Author.Tests.{eq-eqb, eqb-true, le-leb}
 use Rattle.curve.specs.Lists.{Lists}
-use Rattle.grid.specs.Rows.{onGrid}
 use Rattle.grid.specs.Check.{Passes}
 use Rattle.checked.specs.Checked.{Checked, OnGrid}
 use Rattle.checked.proofs.CheckedLaws.{checked-of-passes}
@@ -33,7 +31,7 @@ use Rattle.clamping.specs.Clamping.{isWhole, wholeOf}
 use Rattle.unclamping.specs.Unclamping.{openKnot, openSecond, openFirst, openNumber, openNumbers, openPoints, opensOn}
 use Rattle.unclamping.proofs.EntryLaws as Open
 use Rattle.unclamping.proofs.EntryLaws.{openPoints-length, openPoints-at, point-old}
-use Rattle.unclamping.proofs.AxisLaws.{Fits, axis-each, axis-opens}
+use Rattle.unclamping.proofs.AxisLaws.{axis-each, axis-opens}
 use Rattle.knots_exact.specs.SameCurve.{SameOnAxis}
 use Rattle.same_polygon.proofs.AgreeLaws.{WideSpan}
 use Rattle.same_polygon.proofs.PointLaws.{whole-is, same-entries}

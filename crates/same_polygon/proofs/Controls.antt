@@ -3,7 +3,7 @@ use mathlib.Core.List.{List, [], _∷_}
 use mathlib.Core.Path.{_≡_, refl}
 use Prim.Native.Nat.{ℕ}
 use native.Mathlib.Omega.{arith}
-use lib.IntN.{ℤ, pos}
+use lib.IntN.{pos}
 use Rattle.fractions.specs.Fraction.{over, sum, product, negation, turned, reciprocal}
 use Rattle.fractions.specs.Order.{Equals}
 use Rattle.splines.specs.Basis.{basis, sumOf, curveAt}

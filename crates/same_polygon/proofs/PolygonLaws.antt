@@ -19,7 +19,7 @@ use Rattle.span.specs.Span.{spanOf}
 use Rattle.span.proofs.SpanLaws.{spanOf-is}
 use Rattle.checked.specs.Checked.{Checked}
 use Rattle.checked.proofs.CheckedLaws.{checked-of-passes}
-use Rattle.same_polygon.specs.SamePolygon.{CarriesSpan, OneCurve, CurveFixesPolygon}
+use Rattle.same_polygon.specs.SamePolygon.{CarriesSpan, CurveFixesPolygon}
 use Rattle.same_polygon.proofs.PointLaws.{carriers-fixed}
 
 module _ (m : ℕ) (c : Lists) (passes : Passes m (c .knots) (c .xs) (c .ys)) where

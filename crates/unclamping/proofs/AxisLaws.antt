@@ -3,7 +3,7 @@ use mathlib.Core.Bool.{true, false, true≢false}
 use mathlib.Core.List.{List}
 use mathlib.Core.Logic.{_⊎_, inl, inr, ⊎-elim}
 use mathlib.Core.Path.{_≡_, refl, sym, _∙_}
-use Prim.Native.Nat.{ℕ, zero, suc, _+_, _-_, _≤_, _<_}
+use Prim.Native.Nat.{ℕ, _+_, _-_, _≤_, _<_}
 use native.Mathlib.Omega.{arith}
 use lib.IntN.{ℤ, pos}
 use lib.ListN.{length, getD}
@@ -17,6 +17,7 @@ use Rattle.insertion.proofs.OrderLaws.{either}
 use Rattle.clamping.specs.declared.Share.{Share}
 use Rattle.clamping.specs.EndRows.{finishOf}
 use Rattle.clamping.specs.Clamping.{isWhole, wholeOf, allWhole}
+use Rattle.clamping.proofs.WholeLaws.{whole-each, whole-of-each, one-not}
 use Rattle.unclamping.specs.Unclamping.{openNumber, openNumbers, openPoints, opensOn}
 use Rattle.unclamping.proofs.EntryLaws.{whole-one, whole-is, openPoints-length, openPoints-at, point-old}
 
@@ -28,30 +29,6 @@ Fits a = (isWhole a ≡ true) × (onGrid (wholeOf a) ≡ true)
 abbrev pub FitsNot : Share → Type 0
 FitsNot a = (isWhole a ≡ false) ⊎ (onGrid (wholeOf a) ≡ false)
 
--- all numbers are whole exactly where each is
-all-of-each : (f : ℕ → Share) (count : ℕ) → ((j : ℕ) → j < count → isWhole (f j) ≡ true) → allWhole f count ≡ true
-unfolding allWhole
-all-of-each f zero each = refl
-all-of-each f (suc count) each = rw (each count (omega arith), all-of-each f count (λ j i. each j (omega arith)))
-
-each-of-all : (f : ℕ → Share) (count : ℕ) → allWhole f count ≡ true → (j : ℕ) → j < count → isWhole (f j) ≡ true
-unfolding allWhole
-each-of-all f zero h j i = absurd (omega arith)
-each-of-all f (suc count) h j i =
-    let p = both (allWhole f count) (isWhole (f count)) h in
-    let before = each-of-all f count (p .0) j in
-    either j count before (λ last. let same : j ≡ count = omega arith in rw same (p .1))
-
-some-not : (f : ℕ → Share) (count : ℕ) → allWhole f count ≡ false → (j : ℕ) × (j < count) × (isWhole (f j) ≡ false)
-unfolding allWhole
-some-not f zero h = absurd (true≢false h)
-some-not f (suc count) h =
-    let before = some-not f count in
-    ⊎-elim
-    (λ e. let r = before e in (r .0, omega (arith, r .1), r .2))
-    (λ e. (count, omega arith, e))
-    (one-fails (allWhole f count) (isWhole (f count)) h)
-
 module _ (m : ℕ) (ts : List ℕ) (ps : List ℤ) where
   -- every number of an axis that opens
   pub axis-each : opensOn m ts ps ≡ true → (j : ℕ) → j < length ps → Fits (openNumbers m ts ps j)
@@ -59,13 +36,13 @@ module _ (m : ℕ) (ts : List ℕ) (ps : List ℤ) where
   axis-each h j i =
       let p = both (allWhole (openNumbers m ts ps) (length ps)) (allOnGrid (openPoints m ts ps)) h in
       let grid = every-passes onGrid allOnGrid refl (λ z r. refl) (pos 0) (openPoints m ts ps) (p .1) j (rw (openPoints-length m ts ps) i) in
-      (each-of-all (openNumbers m ts ps) (length ps) (p .0) j i, rw (openPoints-at m ts ps j i) at grid)
+      (whole-each (openNumbers m ts ps) (length ps) (p .0) j i, rw (openPoints-at m ts ps j i) at grid)
 
   axis-of-each : ((j : ℕ) → j < length ps → Fits (openNumbers m ts ps j)) → opensOn m ts ps ≡ true
   unfolding opensOn allOnGrid
   axis-of-each each =
       rw (
-        all-of-each (openNumbers m ts ps) (length ps) (λ j i. each j i .0),
+        whole-of-each (openNumbers m ts ps) (length ps) (λ j i. each j i .0),
         every-holds onGrid allOnGrid refl (λ z r. refl) (pos 0) (openPoints m ts ps)
             (λ j i. let inside : j < length ps = rw (openPoints-length m ts ps) at i in rw (openPoints-at m ts ps j inside) (each j inside .1)),
       )
@@ -74,7 +51,7 @@ module _ (m : ℕ) (ts : List ℕ) (ps : List ℤ) where
   unfolding opensOn allOnGrid
   axis-not h =
       ⊎-elim
-      (λ e. let r = some-not (openNumbers m ts ps) (length ps) e in (r .0, r .1, inl (r .2)))
+      (λ e. let r = one-not (openNumbers m ts ps) (length ps) e in (r .0, r .1, inl (r .2)))
       (λ e.
       let r = some-fails onGrid allOnGrid refl (λ z s. refl) (pos 0) (openPoints m ts ps) e in
       let inside : r .0 < length ps = rw (openPoints-length m ts ps) at (r .1) in

@@ -1,9 +1,9 @@
 -- The worked compactions: their passes are closed cases of `compaction`, and the call ends as they do.
 use mathlib.Core.Path.{refl}
-use Prim.Native.Nat.{ℕ, _-_}
+use Prim.Native.Nat.{_-_}
 use lib.ListN.{length}
 use Rattle.curve.specs.Lists.{Lists}
-use Rattle.curve.specs.HandingOver.{enough, roomNumber}
+use Rattle.curve.specs.HandingOver.{enough}
 use Rattle.curve.proofs.HandingLaws.{ends-done}
 use Rattle.grid.specs.Rows.{degreeOk, pointCountOk, knotCountOk, risesFrom, knotOrderOk, endsOk, occurrences, repeatsMost, repeatsWithin, repeatsOk, onGrid, allOnGrid, rangeOk}
 use Rattle.grid.specs.Check.{checkedThen, checkNumber}

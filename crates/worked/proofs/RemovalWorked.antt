@@ -16,7 +16,7 @@ use Rattle.grid.specs.Check.{checkedThen}
 use Rattle.signed.specs.Division.{divides}
 use Rattle.insertion.specs.Insertion.{knotsUpTo, insertionSpan, insertedKnots, insertedPoint, insertedPoints, entries, pointAt, weightedSum, weight, wholePoints, wholeFrom}
 use Rattle.insertion.specs.Judged.{valueOk, placeOk, wholeOk, insertableThen, insertionNumber}
-use Rattle.removal.specs.Removal.{withoutOne, Removes, Removable}
+use Rattle.removal.specs.Removal.{withoutOne, Removable}
 use Rattle.removal.specs.Axis.{AxisReinserts, Reduced}
 use Rattle.removal.proofs.EquationLaws.{reinserts-left, reinserts-right, reinserts-forward}
 use Rattle.removal.proofs.PolygonLaws.{reinserts-xs, reinserts-reduced}
