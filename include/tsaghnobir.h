@@ -87,7 +87,7 @@
  * nothing to do.
  * Version 7: ends need not be clamped. 5 refuses an empty domain alone, which begins at knots[degree] and ends at
  * knots[xs_len]; 6 lets an end of the domain and any value outside it stand degree + 1 times; 9 and 12 ask for a value
- * strictly inside the domain. Whatever passed before passes, with the same answers, and curves that were refused by 5 or 6
+ * strictly inside the domain. Whatever passed before passes, with the same answers, and curves that were refused by 5 may
  * now pass: a caller of version 6 who counts on a first control point where the curve begins, say of a job that was read,
  * hands the curve to tsb_clamp_ends, which is new and gives a clamped curve back as it is. tsb_unclamp_right is new too,
  * and so is 23, which it alone gives. tsb_svg clamps a copy first, and gives 11 too where a point of this copy is not
