@@ -19,32 +19,16 @@ sys.path.insert(0, str(TESTS))
 from harness import driver  # noqa: E402
 from harness.compare import first_difference  # noqa: E402
 from harness.fed_jobs import fed_jobs, jobs_in, overlong  # noqa: E402
+from harness.run_faults import run_faults  # noqa: E402
 from harness.shapes import EXPORTED, NUMBER, PLACED, Broken, Reader, read_cases, told_in  # noqa: E402
 from harness.worked import Unreadable, worked_cases  # noqa: E402
 from program import NotBuilt  # noqa: E402
 from second import ANSWERS, CASES, LEAST_CASES, too_few  # noqa: E402
 
 
-def told(cases, fault):
-    """A fault of the driver with the name of its case."""
-    word, _, rest = fault.partition(":")
-    number = word[len("case ") :]
-    if word.startswith("case ") and number.isdigit() and 1 <= int(number) <= len(cases):
-        case = cases[int(number) - 1]
-        return "%s (%s):%s" % (case.name, case.call, rest)
-    return fault
-
-
 def faults_of(word, cases):
     """What is wrong with one run over all cases."""
-    status, answers, faults = driver.run(word, cases)
-    found = [told(cases, fault) for fault in faults[:10]]
-    differs = first_difference(cases, answers)
-    if differs:
-        found.append(differs)
-    if status != 0:
-        found.append("the driver ended with status %d" % status)
-    return ["%s guards: %s" % (word, fault) for fault in found]
+    return ["%s guards: %s" % (word, fault) for fault in run_faults(cases, *driver.run(word, cases))]
 
 
 def last_of(case, name):
