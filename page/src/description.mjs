@@ -2,8 +2,8 @@
 
 import { CLAMPS_MOST, KNOTS_MOST, POINTS_MOST } from "./limits.mjs";
 
-const STORED_MOST = 2 ** 31 - 1;
-const STORED_LEAST = -(2 ** 31);
+const MOST = 2 ** 31 - 1;
+const LEAST = -(2 ** 31);
 const COORDINATE = "each -262,144 to 262,144 hundredths of a millimetre";
 const SHOWN = 24;
 
@@ -11,9 +11,9 @@ const SHOWN = 24;
 const TAKES = {
   degree: { count: 1, least: 0, most: 255, room: 1, words: "one number, 1, 2 or 3" },
   knots: { count: 0, least: 0, most: 65535, room: KNOTS_MOST, words: "whole numbers, each 0 to 16,383" },
-  point: { count: 2, least: STORED_LEAST, most: STORED_MOST, room: 2 * POINTS_MOST, words: `two numbers, x and y, ${COORDINATE}` },
+  point: { count: 2, least: LEAST, most: MOST, room: 2 * POINTS_MOST, words: `two numbers, x and y, ${COORDINATE}` },
   radius: { count: 1, least: 0, most: 65535, room: 1, words: "one number, 0 to 4,096 hundredths of a millimetre" },
-  clamp: { count: 4, least: STORED_LEAST, most: STORED_MOST, room: 4 * CLAMPS_MOST, words: `four numbers, low x, high x, low y, high y, ${COORDINATE}` },
+  clamp: { count: 4, least: LEAST, most: MOST, room: 4 * CLAMPS_MOST, words: `four numbers, low x, high x, low y, high y, ${COORDINATE}` },
 };
 const FULL = {
   degree: "the degree is given a second time",
@@ -24,7 +24,7 @@ const FULL = {
 };
 const NEEDED = {
   degree: "there is no line with the degree",
-  radius: "there is no line with the radius: write “radius 150”, half the cutter's width in hundredths of a millimetre, or “radius 0” for a pen",
+  radius: "there is no line with the radius: write “radius 150”, half the cutter's width in hundredths of a mm, or “radius 0” for a pen",
 };
 
 class Wrong extends Error {}
