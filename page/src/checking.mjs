@@ -48,36 +48,54 @@ function slowed(curve) {
   return { at, curve: { ...curve, knots: curve.knots.map(at) } };
 }
 
-// For a curve that has no path on the grid: straight strokes between computed points.
-function strokes(library, original, spans) {
+// For a curve that has no path on the grid: straight strokes between computed points, in each span that `kept` has no piece for.
+function strokes(library, original, spans, kept) {
   const { at, curve } = slowed(original);
   const most = Math.max(2, Math.min(STROKES_OF_A_SPAN, Math.floor(STROKES_OF_A_CURVE / spans.length)));
   const place = (t) => {
     const { x, y } = library.point(curve, t);
     return `${x} ${y}`;
   };
-  return spans.map(([low, high]) => {
+  return spans.map(([low, high], k) => {
+    if (kept(k)) return kept(k);
     const [from, width] = [at(low), at(high) - at(low)];
     const count = Math.min(most, width);
-    const ends = Array.from({ length: count }, (_, k) => place(from + Math.floor(((k + 1) * width) / count)));
+    const ends = Array.from({ length: count }, (_, stroke) => place(from + Math.floor(((stroke + 1) * width) / count)));
     return { from: place(from), draw: `L ${ends.join(" ")}` };
   });
 }
 
-// What is drawn of a curve: its spans, a piece and a mark for each, and its path data, or the number by which that is refused.
-export function drawnCurve(library, curve) {
+// Whether span k of a curve is as it was in one on the same knots: none of the points that carry it has moved.
+function unmoved(curve, before, firsts) {
+  const same = curve.xs.map((x, k) => Number(x === before.xs[k] && curve.ys[k] === before.ys[k]));
+  return (k) => same.subarray(firsts[k], firsts[k] + curve.degree + 1).every((one) => one === 1);
+}
+
+// What stays the same for all curves on the same knots: the spans, and the first of the points that carry each.
+function spansOf(library, curve) {
   const spans = spansMet(library, curve, EVERYWHERE, 0);
-  const marks = [...spans.map(([low]) => low), spans[spans.length - 1][1]].map((t) => ({ t, ...library.point(curve, t) }));
+  return { spans, firsts: spans.map(([low]) => library.carrying(curve, low).first) };
+}
+
+// What is drawn of a curve: its spans, a piece and a mark for each, a mark at the end, and its path data, or null where that is refused.
+// What was drawn of a curve on the same knots is taken over where no point has moved: working out a long curve takes longer than a hand waits.
+export function drawnCurve(library, curve, drawn) {
+  const sameKnots = drawn !== null && drawn.curve.knots === curve.knots && drawn.curve.degree === curve.degree;
+  const { spans, firsts } = sameKnots ? drawn : spansOf(library, curve);
+  const stays = sameKnots ? unmoved(curve, drawn.curve, firsts) : () => false;
+  const last = spans.length - 1;
+  const marks = [...spans.map(([low]) => low), spans[last][1]].map((t, k) =>
+    stays(Math.min(k, last)) ? drawn.marks[k] : { t, ...library.point(curve, t) });
   const out = new Uint8Array(SVG_MOST);
   const { refusal, length } = library.svg(curve, out);
   const path = refusal === 0 ? new TextDecoder().decode(out.subarray(0, length)) : null;
-  const pieces = path === null ? strokes(library, curve, spans) : cutPieces(path);
-  return { spans, marks, pieces, path, refusal };
+  const keptPiece = (k) => (drawn?.path === null && stays(k) ? drawn.pieces[k] : null);
+  const pieces = path === null ? strokes(library, curve, spans, keptPiece) : cutPieces(path);
+  return { curve, spans, firsts, marks, pieces, path };
 }
 
-// The box that the check looks at for the span that begins at a knot: round the control points that carry it.
-export function boxOf(library, curve, low) {
-  const { first } = library.carrying(curve, low);
-  const carried = (list) => list.subarray(first, first + curve.degree + 1);
+// The box that the check looks at for a span: round the control points that carry it.
+export function boxOf({ curve, firsts }, k) {
+  const carried = (list) => list.subarray(firsts[k], firsts[k] + curve.degree + 1);
   return [Math.min(...carried(curve.xs)), Math.max(...carried(curve.xs)), Math.min(...carried(curve.ys)), Math.max(...carried(curve.ys))];
 }

@@ -27,7 +27,7 @@ export function deskOf({ library, program, meanings }) {
 
   function drawAll(curveToo) {
     if (curveToo) drawCurve(picture, state);
-    drawClamps(picture, state, library);
+    drawClamps(picture, state);
     markPoint(picture, state.point);
     drawPanel(state);
     if (state.view) placePicture(picture, state);
@@ -42,7 +42,7 @@ export function deskOf({ library, program, meanings }) {
       return false;
     }
     const curveToo = !sameCurve(state.job, job) || state.job.radius !== job.radius;
-    if (!sameCurve(state.job, job)) state.drawn = drawnCurve(library, job);
+    if (!sameCurve(state.job, job)) state.drawn = drawnCurve(library, job, state.drawn);
     const before = state.result;
     Object.assign(state, { job, result });
     if (state.chosen !== null && state.chosen >= clampCount(job)) state.chosen = clampCount(job) === 0 ? null : clampCount(job) - 1;
@@ -56,6 +56,7 @@ export function deskOf({ library, program, meanings }) {
     state,
     say,
     change: take,
+    sayAll: () => say(summaryWords(state.result.listed)),
 
     // Another job: nothing of the one before stays chosen, and all of it is seen.
     open(job) {

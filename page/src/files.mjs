@@ -9,6 +9,7 @@ import { refusalWords } from "./words.mjs";
 
 const DESCRIPTION_MOST = 1 << 20;
 const OTHER_TEXT = "This is a text, but not in UTF-8. Open it in an editor and save it as UTF-8.";
+const UNREADABLE = "The browser cannot read this: it is a folder, or a file that is gone or must not be read.";
 const LONG_TEXT = "This text is far too long for a description of a job.";
 
 const unusable = (sentence, bytes = null, place = null) => ({ job: null, sentence, bytes, place });
@@ -26,17 +27,29 @@ function fromDescription({ library, meanings }, text) {
   return refusal === 0 ? fromJob({ library, meanings }, bytes) : unusable(`${refusalWords(meanings, refusal, null)}.`);
 }
 
-// The job in a file, or why there is none.
-export async function openedFile(means, file) {
-  const front = new Uint8Array(await file.slice(0, JOB_MOST + 1).arrayBuffer());
-  const kind = textKind(front);
-  if (kind === "job") return fromJob(means, front);
+async function bytesOf(file) {
+  return new Uint8Array(await file.arrayBuffer());
+}
+
+async function fromText(means, kind, file) {
+  if (kind === "other text") return unusable(OTHER_TEXT);
   if (file.size > DESCRIPTION_MOST) return unusable(LONG_TEXT);
   try {
-    if (kind === "other text") return unusable(OTHER_TEXT);
-    return fromDescription(means, new TextDecoder("utf-8", { fatal: true }).decode(await file.arrayBuffer()));
+    return fromDescription(means, new TextDecoder("utf-8", { fatal: true }).decode(await bytesOf(file)));
   } catch (fault) {
     if (fault instanceof TypeError) return unusable(OTHER_TEXT);
+    throw fault;
+  }
+}
+
+// The job in a file, or why there is none.
+export async function openedFile(means, file) {
+  try {
+    const front = await bytesOf(file.slice(0, JOB_MOST + 1));
+    const kind = textKind(front);
+    return kind === "job" ? fromJob(means, front) : await fromText(means, kind, file);
+  } catch (fault) {
+    if (fault instanceof DOMException) return unusable(UNREADABLE);
     throw fault;
   }
 }

@@ -1,16 +1,27 @@
 // What the mouse, a finger and the keys do in the picture.
 
 import { clampOf, withClamp, withPoint, withoutClamp } from "./job.mjs";
-import { panned, zoomed } from "./view.mjs";
+import { panned, toScreen, zoomed } from "./view.mjs";
 
 const KEY_STEP = 100;
 const FINE_STEP = 10;
 const PAN = 40;
+const MIDDLE = 4;
 const CLOSER = 1.25;
 const ARROWS = { ArrowLeft: [-1, 0], ArrowRight: [1, 0], ArrowDown: [0, -1], ArrowUp: [0, 1] };
 const SIDES = ["left", "right", "bottom", "top"];
 
 const moved = ([lowX, highX, lowY, highY], dx, dy) => [lowX + dx, highX + dx, lowY + dy, highY + dy];
+
+// Where a control point lies on a clamp, the point is grasped by its middle alone, unless it is the chosen one, and beside it the clamp.
+function grasped({ target, clientX, clientY }, [x, y], desk) {
+  const { job, view, point } = desk.state;
+  const k = Number(target.dataset.point) - 1;
+  if (!target.dataset.point || k === point) return target;
+  const [middleX, middleY] = toScreen(view, job.xs[k], job.ys[k]);
+  if (Math.hypot(x - middleX, y - middleY) <= MIDDLE) return target;
+  return document.elementsFromPoint(clientX, clientY).find((one) => one.closest("#clamps")) ?? target;
+}
 
 // What a drag that begins on this element does; it is told how far the hand went since then, in pixels.
 function dragging(target, desk) {
@@ -59,7 +70,7 @@ function listenToPointer(element, desk) {
   };
   const begin = (event) => {
     const [x, y] = place(event);
-    const go = dragging(event.target, desk);
+    const go = dragging(grasped(event, [x, y], desk), desk);
     return (now) => go(place(now)[0] - x, place(now)[1] - y);
   };
   element.addEventListener("pointerdown", (event) => {

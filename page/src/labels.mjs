@@ -10,25 +10,29 @@ const WIDE_ENOUGH = 70;
 const LABEL_BELOW = 15;
 const HANDLE = 12;
 
-// Marks whose numbers do not stand on one another; the first and the last mark come first.
-function apart(places) {
+// Those labels that stand on none before them: what comes first is shown first.
+function apart(labels) {
   const taken = new Set();
   const cells = ({ x, y }) => {
     const [column, row] = [Math.floor(x / APART), Math.floor(y / APART)];
     return [-1, 0, 1].flatMap((right) => [-1, 0, 1].map((down) => `${column + right} ${row + down}`));
   };
-  return [places[0], places[places.length - 1], ...places.slice(1, -1)].filter((place) => {
-    const around = cells(place);
-    if (around.some((cell) => taken.has(cell))) return false;
+  return labels.filter((label) => {
+    const around = cells(label);
+    if (label.class === "mark" && around.some((cell) => taken.has(cell))) return false;
     taken.add(around[4]);
     return true;
   });
 }
 
-const markLabels = ({ drawn, view }) => apart(drawn.marks.map(({ t, x, y }) => {
-  const [atX, atY] = toScreen(view, x, y);
-  return { x: atX + 6, y: atY - 8, text: String(t), class: "mark" };
-}));
+// The numbers of the marks, both ends of the curve first.
+function markLabels({ drawn, view }) {
+  const labels = drawn.marks.map(({ t, x, y }) => {
+    const [atX, atY] = toScreen(view, x, y);
+    return { x: atX + 6, y: atY - 8, text: String(t), class: "mark" };
+  });
+  return [labels[0], labels[labels.length - 1], ...labels.slice(1, -1)];
+}
 
 // Under the widened outline, the number of a clamp, with its verdict in words where there is room and as a sign where there is not.
 const clampLabels = ({ job, result, view }) => clampsOf(job).map(([lowX, highX, lowY], k) => {
@@ -39,16 +43,17 @@ const clampLabels = ({ job, result, view }) => clampsOf(job).map(([lowX, highX, 
   return { x, y: y + LABEL_BELOW, text: `${k + 1} ${verdict}`, class: "clamp-label", "text-anchor": "middle" };
 });
 
+// Handles stand outside the clamp, so that a small one can still be grasped by its middle.
 function handlePlaces({ job, chosen, view }) {
   if (chosen === null) return [];
   const [lowX, highX, lowY, highY] = clampOf(job, chosen);
-  const [middleX, middleY] = [(lowX + highX) / 2, (lowY + highY) / 2];
-  const at = { left: [lowX, middleY], right: [highX, middleY], bottom: [middleX, lowY], top: [middleX, highY] };
-  return Object.entries(at).map(([side, place]) => [side, ...toScreen(view, ...place)]);
+  const [[left, bottom], [right, top]] = [toScreen(view, lowX, lowY), toScreen(view, highX, highY)];
+  const [middleX, middleY] = [(left + right) / 2, (bottom + top) / 2];
+  return [["left", left - HANDLE, middleY], ["right", right + HANDLE, middleY], ["bottom", middleX, bottom + HANDLE], ["top", middleX, top - HANDLE]];
 }
 
 export function drawLabels(picture, state) {
-  const labels = [...markLabels(state), ...clampLabels(state)];
+  const labels = apart([...clampLabels(state), ...markLabels(state)]);
   kept(picture.labels, labels.length, () => svg("text", { "pointer-events": "none" })).forEach((label, k) => {
     const { text, ...attributes } = labels[k];
     set(label, { "text-anchor": null, ...attributes });

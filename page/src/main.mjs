@@ -62,7 +62,10 @@ function listenToButtons({ library }, desk) {
     hideUnusable();
     desk.open(readJob(library, packed("sample-job")).job);
   });
-  pressed("back", hideUnusable);
+  pressed("back", () => {
+    hideUnusable();
+    desk.sayAll();
+  });
   pressed("save-job", () => save("clampcheck.job", state.result.bytes));
   pressed("save-path", () => save("clampcheck-path.txt", `${state.drawn.path}\n`));
   pressed("zoom-in", () => desk.zoom(CLOSER));

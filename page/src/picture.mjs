@@ -8,6 +8,7 @@ import { transformOf } from "./view.mjs";
 import { isClear, verdictWords } from "./words.mjs";
 
 const STRIPE = 8;
+const FEW = 120;
 
 const rectangle = ([lowX, highX, lowY, highY]) => ({ x: lowX, y: lowY, width: highX - lowX, height: highY - lowY });
 
@@ -51,6 +52,7 @@ export function drawCurve(picture, { job, drawn }) {
   set(picture.marks, { d: dots(drawn.marks) });
   const places = Array.from(job.xs, (x, k) => ({ x, y: job.ys[k] }));
   set(picture.polygon, { d: `M ${places.map(({ x, y }) => `${x} ${y}`).join(" L ")}` });
+  set(picture.world, { class: places.length > FEW ? "many" : null });
   kept(picture.points, places.length, (k) => svg("path", { "data-point": k + 1 })).forEach((dot, k) => set(dot, { d: dots([places[k]]) }));
 }
 
@@ -63,7 +65,7 @@ function drawClamp(element, k, sides, { job, result, chosen }) {
 }
 
 // What changes with the clamps and the verdicts: every listed span, and the boxes of those listed for the chosen clamp, or for any.
-export function drawClamps(picture, state, library) {
+export function drawClamps(picture, state) {
   const { job, drawn, result } = state;
   const sides = clampsOf(job);
   kept(picture.clamps, sides.length, clampElement).forEach((element, k) => drawClamp(element, k, sides[k], state));
@@ -74,7 +76,7 @@ export function drawClamps(picture, state, library) {
   const all = result.listed.flat();
   const boxed = placesOf(state.chosen === null ? all : result.listed[state.chosen]);
   set(picture.listed, { d: alone(placesOf(all).map((k) => drawn.pieces[k])) });
-  set(picture.boxes, { d: boxed.map((k) => outline(boxOf(library, job, drawn.spans[k][0]))).join(" ") });
+  set(picture.boxes, { d: boxed.map((k) => outline(boxOf(drawn, k))).join(" ") });
 }
 
 export function markPoint(picture, chosen) {

@@ -29,13 +29,16 @@ export function bytesShown(bytes, place) {
 }
 
 function placeWords(bytes, place) {
-  if (place === bytes.length) return `The file ends here, after ${place} bytes. In each row below, the number of its first byte stands in front.`;
-  return `The marked byte is the one numbered ${place}, counted from 0. In each row below, the number of its first byte stands in front.`;
+  const good = `The file is good up to the marked byte, number ${place} counted from 0.`;
+  const here = place === bytes.length ? `The file ends after ${place} bytes, at the mark.` : good;
+  const todo = "It is damaged, or it is no job: take another copy of it, or make it anew.";
+  return `${here} ${todo} In front of each row stands the number of its first byte.`;
 }
 
 // Hides the work, so that no verdict of another job stands beside the refusal.
 export function showUnusable(name, { sentence, bytes, place }, wayBack = true) {
   found("unusable").textContent = `${name} cannot be used`;
+  found("status").textContent = `${name} cannot be used.`;
   found("sentence").textContent = sentence;
   const broken = place !== null;
   found("advice").textContent = broken ? placeWords(bytes, place) : "";

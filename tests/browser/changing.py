@@ -2,7 +2,6 @@
 
 import jobs
 import right
-from hands import between, move, press, release
 from moving import moved, near, verdict
 from page import SIDES, middle_of
 from second_program.dice import Dice
@@ -50,12 +49,7 @@ def handle_across(page):
     """a handle dragged beyond the other side leaves a clamp that is none the worse"""
     page.choose(3)
     view, sides = page.view(jobs.SIGN), jobs.SIGN.clamps[2]
-    handle = page.middle('#picture [data-side="left"]')
-    press(page.tab, handle)
-    for place in between(handle, view.at((sides[1] + 1500, middle_of(sides)[1])), 6):
-        move(page.tab, place)
-    release(page.tab, place)
-    page.settle()
+    page.drag(page.middle('#picture [data-side="left"]'), view.at((sides[1] + 1500, middle_of(sides)[1])))
     low_x, high_x, low_y, high_y = page.agreed().clamps[2]
     assert low_x <= high_x and low_y <= high_y, "the sides are crossed: %r" % ((low_x, high_x, low_y, high_y),)
 

@@ -9,12 +9,11 @@ KEYS = {
     "ArrowDown": 40,
     "Delete": 46,
     "Tab": 9,
-    "Enter": 13,
     "+": 107,
     "-": 109,
 }
 CODES = {"+": "NumpadAdd", "-": "NumpadSubtract"}
-WRITING = {"+": "+", "-": "-", "Enter": "\r"}
+WRITTEN = ("+", "-")  # keys that write a letter
 
 
 def mouse(tab, kind, place, **more):
@@ -60,7 +59,7 @@ def wheel(tab, place, turned):
 def key(tab, name, shift=False):
     """Presses a key once."""
     told = dict(key=name, code=CODES.get(name, name), windowsVirtualKeyCode=KEYS[name], modifiers=SHIFT if shift else 0)
-    written = {"text": WRITING[name]} if name in WRITING else {}
+    written = {"text": name} if name in WRITTEN else {}
     tab.tell("Input.dispatchKeyEvent", type="keyDown", **told, **written)
     tab.tell("Input.dispatchKeyEvent", type="keyUp", **told)
 

@@ -4,7 +4,7 @@ import hands
 import jobs
 import right
 from moving import near
-from page import INTO_VIEW, clamp, middle_of
+from page import clamp, middle_of
 from showing import BUTTONS, INPUTS
 
 NARROW = 360, 740
@@ -147,7 +147,6 @@ def after_resize(page):
     page.tab.size(700, 600)
     page.settle()
     view, sides = page.view(jobs.SIGN), jobs.SIGN.clamps[2]
-    page.tab.call(INTO_VIEW, "#picture")
     wanted = tuple(side + 500 for side in sides)
     page.drag(page.middle(clamp(3)), view.at(middle_of(wanted)))
     near("clamp 3", page.agreed().clamps[2], wanted, view)

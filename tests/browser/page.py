@@ -139,7 +139,7 @@ class Page:
         return View(one, self.middle(clamp(1)), other, self.middle(clamp(far + 1)))
 
     def load(self, path):
-        """Chooses a file; the input is told even where it is the same again."""
+        """Chooses a file."""
         hands.choose_files(self.tab, "document.querySelector('#file')", path)
         self.settle()
 

@@ -23,6 +23,7 @@ import files  # noqa: E402
 import looking  # noqa: E402
 import moving  # noqa: E402
 import noticing  # noqa: E402
+import program  # noqa: E402
 import refusing  # noqa: E402
 import right  # noqa: E402
 import showing  # noqa: E402
@@ -52,7 +53,7 @@ def tried(page, attempt, afterwards):
         told = attempt(page)
         afterwards(page, since)
         return None, told
-    except (AssertionError, Failed) as fault:
+    except (AssertionError, Failed, program.NotRun) as fault:
         return str(fault), None
 
 
