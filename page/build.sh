@@ -12,9 +12,10 @@ made=$PWD/target/page
 mkdir -p "$made"
 ln -sf "$clang" "$made/wasm-ld" # the kit's compiler is its linker too, by the name it is called
 
-# compiles a module for WebAssembly: NAME, the file, and words for the linker
+# compiles a module for WebAssembly: NAME, the file, and words for the linker; the compiler remarks that the module names another processor
 compile() {
-    "$clang" --target=wasm32 -mbulk-memory -Wno-override-module -O3 -c -x ir "target/module/$1.bc" -o "$made/$1.o"
+    "$clang" --target=wasm32 -mbulk-memory -Wno-override-module -O3 -c -x ir "target/module/$1.bc" -o "$made/$1.o" 2>"$made/$1.log" ||
+        { cat "$made/$1.log" >&2; exit 1; }
     name=$1 file=$2
     shift 2
     "$made/wasm-ld" --no-entry --stack-first -z stack-size=131072 --strip-all "$@" "$made/$name.o" -o "$made/$file"

@@ -8,9 +8,11 @@ const EVERYWHERE = [-COORDINATE_MOST, COORDINATE_MOST, -COORDINATE_MOST, COORDIN
 const STROKES_OF_A_CURVE = 4096;
 const STROKES_OF_A_SPAN = 48;
 
+// Places for listed spans, which every call writes anew.
+const [lows, highs] = [new Uint16Array(POINTS_MOST), new Uint16Array(POINTS_MOST)];
+
 // The spans whose box meets a clamp that is widened by the radius, as pairs of knots.
 export function spansMet(library, curve, sides, radius) {
-  const [lows, highs] = [new Uint16Array(POINTS_MOST), new Uint16Array(POINTS_MOST)];
   const { refusal, count } = library.spans(curve, sides, radius, lows, highs);
   if (refusal !== 0) throw new Error(`spans are refused by ${refusal}, and the job was not`);
   return Array.from({ length: count }, (_, k) => [lows[k], highs[k]]);

@@ -5,7 +5,7 @@ import { kept, set, svg } from "./elements.mjs";
 import { toScreen } from "./view.mjs";
 import { isClear } from "./words.mjs";
 
-const APART = 26;
+const APART = [26, 14];
 const WIDE_ENOUGH = 70;
 const LABEL_BELOW = 15;
 const HANDLE = 12;
@@ -14,7 +14,7 @@ const HANDLE = 12;
 function apart(labels) {
   const taken = new Set();
   const cells = ({ x, y }) => {
-    const [column, row] = [Math.floor(x / APART), Math.floor(y / APART)];
+    const [column, row] = [Math.floor(x / APART[0]), Math.floor(y / APART[1])];
     return [-1, 0, 1].flatMap((right) => [-1, 0, 1].map((down) => `${column + right} ${row + down}`));
   };
   return labels.filter((label) => {
