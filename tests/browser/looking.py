@@ -100,9 +100,7 @@ def wheel_leaves_page(page):
 
 def narrow(page):
     """on a screen 360 wide nothing lies beside it, and every part can be touched"""
-    page.tab.size(*NARROW, mobile=True)
-    page.tab.open(page.address)
-    page.wait("document.querySelector('#text').textContent", "no text is shown")
+    page.open(*NARROW, mobile=True)
     page.picture("narrow.png")
     page.picture("narrow_whole.png", whole=True)
     wide = page.tab.evaluate("[innerWidth, document.documentElement.scrollWidth]")
@@ -116,9 +114,7 @@ def narrow(page):
 
 def narrow_refused(page):
     """on such a screen a refusal fits too"""
-    page.tab.size(*NARROW, mobile=True)
-    page.tab.open(page.address)
-    page.wait("document.querySelector('#text').textContent", "no text is shown")
+    page.open(*NARROW, mobile=True)
     page.load(jobs.written(page.saved, "tag.job", list(jobs.broken())[1][1]))
     page.wait("document.querySelector('#bytes mark')", "no place is marked")
     page.picture("narrow_refused.png")
@@ -128,11 +124,9 @@ def narrow_refused(page):
 
 def by_finger(page):
     """a finger drags a clamp, and the page does not scroll away under it"""
-    page.tab.size(*NARROW, mobile=True)
     page.tab.tell("Emulation.setTouchEmulationEnabled", enabled=True)
     try:
-        page.tab.open(page.address)
-        page.wait("document.querySelector('#text').textContent", "no text is shown")
+        page.open(*NARROW, mobile=True)
         view, sides = page.view(jobs.SIGN), jobs.SIGN.clamps[2]
         wanted = tuple(side + 1000 for side in sides)
         hands.touch_drag(page.tab, page.middle(clamp(3)), view.at(middle_of(wanted)))

@@ -52,10 +52,12 @@ class Page:
     def __init__(self, tab, address, pictures, saved):
         self.tab, self.address, self.pictures, self.saved = tab, address, pictures, saved
 
-    def open(self):
-        self.tab.size(1280, 800)
+    def open(self, wide=1280, high=800, mobile=False):
+        """Opens the page in a window of this size. With its first frame the page learns the picture's size and shows all of the job in it."""
+        self.tab.size(wide, high, mobile)
         self.tab.open(self.address)
         self.wait("document.querySelector('#text')?.textContent", "no text is shown after the page is opened")
+        self.settle()
 
     def wait(self, expression, fault, seconds=5):
         """Waits until an expression holds."""
