@@ -4,8 +4,8 @@
     python3 tests/second.py compare          makes both anew and compares them with the files, with the demands and counts
     python3 tests/second.py compare CALL     the same for the cases of one call
 
-The scripts tests/after/door_cases.py and text_cases.py run the cases through the proved library and the program, and hold what
-they answer to the same files. SECOND_FAULT=CALL plants one fault in that call here, and the comparison must then fail; a reader, feeding,
+The scripts tests/after/door_cases.py and text_cases.py run the cases through the proved library and the program, page_cases.py through the page's, and
+hold what they answer to the same files. SECOND_FAULT=CALL plants one fault in that call here, and the comparison must then fail; a reader, feeding,
 joining, the cutter's radius, path data and open ends have more faults, which second_program/fault.py lists. A name that is no fault, or none of the calls compared, is an error.
 """
 

@@ -79,7 +79,7 @@ function spansOf(library, curve) {
   return { spans, firsts: spans.map(([low]) => library.carrying(curve, low).first) };
 }
 
-// What is drawn of a curve: its spans, a piece and a mark for each, a mark at the end, and its path data, or null where that is refused.
+// What is drawn of a curve: its spans, a piece and a mark for each, a mark at the end, and its path data, or the number by which that is refused.
 // What was drawn of a curve on the same knots is taken over where no point has moved: working out a long curve takes longer than a hand waits.
 export function drawnCurve(library, curve, drawn) {
   const sameKnots = drawn !== null && drawn.curve.knots === curve.knots && drawn.curve.degree === curve.degree;
@@ -93,7 +93,7 @@ export function drawnCurve(library, curve, drawn) {
   const path = refusal === 0 ? new TextDecoder().decode(out.subarray(0, length)) : null;
   const keptPiece = (k) => (drawn?.path === null && stays(k) ? drawn.pieces[k] : null);
   const pieces = path === null ? strokes(library, curve, spans, keptPiece) : cutPieces(path);
-  return { curve, spans, firsts, marks, pieces, path };
+  return { curve, spans, firsts, marks, pieces, path, refusal };
 }
 
 // The box that the check looks at for a span: round the control points that carry it.

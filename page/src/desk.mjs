@@ -29,7 +29,7 @@ export function deskOf({ library, program, meanings }) {
     if (curveToo) drawCurve(picture, state);
     drawClamps(picture, state);
     markPoint(picture, state.point);
-    drawPanel(state);
+    drawPanel(state, meanings);
     if (state.view) placePicture(picture, state);
   }
 
@@ -38,7 +38,7 @@ export function deskOf({ library, program, meanings }) {
     const result = checkedJob(library, program, job);
     if (result.refusal !== 0) {
       say(`Not done: ${refusalWords(meanings, result.refusal, null)}.`);
-      drawPanel(state);
+      drawPanel(state, meanings);
       return false;
     }
     const curveToo = !sameCurve(state.job, job) || state.job.radius !== job.radius;
@@ -58,12 +58,12 @@ export function deskOf({ library, program, meanings }) {
     change: take,
     sayAll: () => say(summaryWords(state.result.listed)),
 
-    // Another job: nothing of the one before stays chosen, and all of it is seen.
-    open(job) {
+    // Another job, under its name: nothing of the one before stays chosen, and all of it is seen.
+    open(job, name) {
       Object.assign(state, { result: null, chosen: null, point: 0, view: null });
-      const taken = take(job);
-      if (taken) desk.showAll();
-      return taken;
+      if (!take(job)) throw new Error("a job that was read is refused");
+      desk.showAll();
+      say(`${name} is open.`);
     },
 
     look(view) {
@@ -77,12 +77,16 @@ export function deskOf({ library, program, meanings }) {
       if (state.view === null || width === 0) return;
       if (width !== state.width) desk.showAll();
       else desk.look(panned(state.view, 0, (height - state.height) / 2));
-      Object.assign(state, { width, height });
+      state.height = height;
     },
 
     zoom: (factor) => desk.look(zoomed(state.view, factor, ...middle())),
 
-    showAll: () => desk.look(viewOf(boxOfAll(picture), picture.element.clientWidth, picture.element.clientHeight)),
+    showAll() {
+      const { clientWidth: width, clientHeight: height } = picture.element;
+      Object.assign(state, { width, height });
+      desk.look(viewOf(boxOfAll(picture), width, height));
+    },
 
     choose(k) {
       if (k === state.chosen) return;
@@ -98,7 +102,7 @@ export function deskOf({ library, program, meanings }) {
     choosePoint(k) {
       state.point = Math.max(0, Math.min(state.job.xs.length - 1, k));
       markPoint(picture, state.point);
-      drawPanel(state);
+      drawPanel(state, meanings);
     },
   };
   return desk;

@@ -6,21 +6,27 @@ import { panned, toScreen, zoomed } from "./view.mjs";
 const KEY_STEP = 100;
 const FINE_STEP = 10;
 const PAN = 40;
-const MIDDLE = 4;
 const CLOSER = 1.25;
 const ARROWS = { ArrowLeft: [-1, 0], ArrowRight: [1, 0], ArrowDown: [0, -1], ArrowUp: [0, 1] };
 const SIDES = ["left", "right", "bottom", "top"];
 
 const moved = ([lowX, highX, lowY, highY], dx, dy) => [lowX + dx, highX + dx, lowY + dy, highY + dy];
 
-// Where a control point lies on a clamp, the point is grasped by its middle alone, unless it is the chosen one, and beside it the clamp.
-function grasped({ target, clientX, clientY }, [x, y], desk) {
+// How far a pixel is from the middle between two places of the grid.
+function fromMiddle(view, [x, y], [lowX, highX, lowY, highY]) {
+  const [middleX, middleY] = toScreen(view, (lowX + highX) / 2, (lowY + highY) / 2);
+  return Math.hypot(x - middleX, y - middleY);
+}
+
+// Where a control point lies on a clamp, the hand takes the one whose middle is nearer, or the point where it is the chosen one.
+function grasped({ target, clientX, clientY }, place, desk) {
   const { job, view, point } = desk.state;
   const k = Number(target.dataset.point) - 1;
   if (!target.dataset.point || k === point) return target;
-  const [middleX, middleY] = toScreen(view, job.xs[k], job.ys[k]);
-  if (Math.hypot(x - middleX, y - middleY) <= MIDDLE) return target;
-  return document.elementsFromPoint(clientX, clientY).find((one) => one.closest("#clamps")) ?? target;
+  const clamp = document.elementsFromPoint(clientX, clientY).find((one) => one.closest("#clamps"))?.closest("[data-clamp]");
+  if (!clamp) return target;
+  const [x, y, sides] = [job.xs[k], job.ys[k], clampOf(job, Number(clamp.dataset.clamp) - 1)];
+  return fromMiddle(view, place, [x, x, y, y]) < fromMiddle(view, place, sides) ? target : clamp;
 }
 
 // What a drag that begins on this element does; it is told how far the hand went since then, in pixels.

@@ -14,6 +14,7 @@ import { steps } from "./words.mjs";
 
 const CLOSER = 1.25;
 const NEW_CLAMP = 40;
+const SAMPLE = "The sample";
 
 const packed = (id) => Uint8Array.from(atob(found(id).textContent.trim()), (letter) => letter.charCodeAt(0));
 
@@ -35,7 +36,7 @@ function listenToFiles(means, desk) {
     const opened = await openedFile(means, file);
     if (opened.job === null) return showUnusable(file.name, opened);
     hideUnusable();
-    desk.open(opened.job);
+    desk.open(opened.job, file.name);
   };
   found("file").addEventListener("change", async ({ target }) => {
     const [file] = target.files;
@@ -60,7 +61,7 @@ function listenToButtons({ library }, desk) {
   const { state } = desk;
   pressed("sample", () => {
     hideUnusable();
-    desk.open(readJob(library, packed("sample-job")).job);
+    desk.open(readJob(library, packed("sample-job")).job, SAMPLE);
   });
   pressed("back", () => {
     hideUnusable();
@@ -117,8 +118,8 @@ async function start() {
   listenToFiles(means, desk);
   listenToButtons(means, desk);
   listenToFields(desk);
-  new ResizeObserver(([{ contentRect }]) => desk.resized(contentRect.width, contentRect.height)).observe(found("picture"));
-  desk.open(readJob(means.library, packed("sample-job")).job);
+  new ResizeObserver(([{ target }]) => desk.resized(target.clientWidth, target.clientHeight)).observe(found("picture"));
+  desk.open(readJob(means.library, packed("sample-job")).job, SAMPLE);
 }
 
 start();

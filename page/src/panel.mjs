@@ -41,14 +41,14 @@ function drawNumbers({ job, point }) {
   show("point-y", job.ys[point]);
 }
 
-export function drawPanel(state) {
+export function drawPanel(state, meanings) {
   drawVerdicts(state);
   drawChosen(state);
   drawNumbers(state);
   found("text").textContent = state.result.text;
   found("save-path").disabled = state.drawn.path === null;
   found("drawn").textContent = state.drawn.path === null
-    ? "This curve has no path whose points are all whole, so it is drawn through computed points, and cannot be saved as a path."
+    ? `The curve is drawn through computed points, and cannot be saved as a path: ${meanings[state.drawn.refusal]}.`
     : "";
 }
 

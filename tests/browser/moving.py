@@ -64,6 +64,12 @@ def dragged_each(page):
         dragged(page, number, 7 * MM, -3 * MM)
 
 
+def each_when_smaller(page):
+    """the same in a smaller window, where clamps and control points lie closer together"""
+    page.open(1024, 768)
+    dragged_each(page)
+
+
 def small_twice(page):
     """a clamp that is small on the screen can be dragged by its middle, and once more"""
     job = jobs.many()
@@ -139,4 +145,16 @@ def point_dragged(page):
     verdict(page, 5, "clear")
 
 
-TRIES = (dragged_off, dragged_onto, dragged_each, dragged_far, small_twice, clicked, moved_by_keys, off_by_keys, keys_in_a_row, point_dragged)
+TRIES = (
+    dragged_off,
+    dragged_onto,
+    dragged_each,
+    each_when_smaller,
+    dragged_far,
+    small_twice,
+    clicked,
+    moved_by_keys,
+    off_by_keys,
+    keys_in_a_row,
+    point_dragged,
+)
