@@ -17,7 +17,9 @@ const unusable = (sentence, bytes = null, place = null) => ({ job: null, sentenc
 // A byte more than the longest job has shows that a file is too long; the rest of it is not looked at.
 function fromJob({ library, meanings }, bytes) {
   const { refusal, place, job } = readJob(library, bytes);
-  return job ? { job } : unusable(`${refusalWords(meanings, refusal, place)}.`, bytes, place);
+  if (job) return { job };
+  const words = refusalWords(meanings, refusal, place);
+  return unusable(place === null ? `${words}.` : `The file is damaged, or it is no job at all (${words}).`, bytes, place);
 }
 
 function fromDescription({ library, meanings }, text) {

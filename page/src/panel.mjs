@@ -7,6 +7,8 @@ import { isClear, millimetres, summaryWords, verdictWords } from "./words.mjs";
 import { scaleOf } from "./view.mjs";
 
 const SIDES = ["left", "right", "bottom", "top"];
+const LONG_TEXT = 200000;
+const RESTING = 250;
 
 function drawVerdicts({ result, chosen }) {
   const items = kept(found("verdicts"), result.listed.length, (k) => html("li", { "data-clamp": k + 1 }, html("button", { type: "button" })));
@@ -41,11 +43,20 @@ function drawNumbers({ job, point }) {
   show("point-y", job.ys[point]);
 }
 
+// A very long text takes the browser a second to lay out, so it is shown when the hand rests; until then there is none, and not an older one.
+let waiting = null;
+
+function drawText(text) {
+  clearTimeout(waiting);
+  found("text").textContent = text.length > LONG_TEXT ? "" : text;
+  if (text.length > LONG_TEXT) waiting = setTimeout(() => found("text").append(text), RESTING);
+}
+
 export function drawPanel(state, meanings) {
   drawVerdicts(state);
   drawChosen(state);
   drawNumbers(state);
-  found("text").textContent = state.result.text;
+  drawText(state.result.text);
   found("save-path").disabled = state.drawn.path === null;
   found("drawn").textContent = state.drawn.path === null
     ? `The curve is drawn through computed points, and cannot be saved as a path: ${meanings[state.drawn.refusal]}.`

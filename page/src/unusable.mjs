@@ -31,7 +31,7 @@ export function bytesShown(bytes, place) {
 function placeWords(bytes, place) {
   const good = `The file is good up to the marked byte, number ${place} counted from 0.`;
   const here = place === bytes.length ? `The file ends after ${place} bytes, at the mark.` : good;
-  const todo = "It is damaged, or it is no job: take another copy of it, or make it anew.";
+  const todo = "Take another copy of it, or make it anew.";
   return `${here} ${todo} In front of each row stands the number of its first byte.`;
 }
 
