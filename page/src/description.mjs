@@ -27,6 +27,11 @@ const NEEDED = {
   radius: "there is no line with the radius: write “radius 150”, half the cutter's width in hundredths of a mm, or “radius 0” for a pen",
 };
 
+const HUNDREDTHS = "; 0.5 mm is written 50";
+const MULTIPLIED = "; to have knots between, multiply all of them by one number";
+// What somebody who writes 0.5 wants to know.
+const HINTS = { degree: "", knots: MULTIPLIED, point: HUNDREDTHS, radius: HUNDREDTHS, clamp: HUNDREDTHS };
+
 class Wrong extends Error {}
 
 const quoted = (part) => `“${part.length > SHOWN ? `${part.slice(0, SHOWN)}…` : part}”`;
@@ -34,7 +39,7 @@ const quoted = (part) => `“${part.length > SHOWN ? `${part.slice(0, SHOWN)}…
 function numberOf(line, word, part) {
   const { least, most, words } = TAKES[word];
   if (!/^[+-]?[0-9]+$/.test(part)) {
-    const hint = /^[+-]?[0-9]*[.,][0-9]+$/.test(part) ? "; write whole hundredths of a millimetre, 50 for 0.5 mm" : "";
+    const hint = /^[+-]?[0-9]*[.,][0-9]+$/.test(part) ? HINTS[word] : "";
     throw new Wrong(`line ${line}: ${quoted(part)} is no whole number; ${word} takes ${words}${hint}`);
   }
   const number = Number(part);

@@ -10,8 +10,7 @@ import { isClear, verdictWords } from "./words.mjs";
 const STRIPE = 8;
 const FEW = 120;
 
-const rectangle = ([lowX, highX, lowY, highY]) => ({ x: lowX, y: lowY, width: highX - lowX, height: highY - lowY });
-
+// A rectangle as a path, since one without width or height is seen only so.
 const outline = ([lowX, highX, lowY, highY]) => `M ${lowX} ${lowY} H ${highX} V ${highY} H ${lowX} Z`;
 
 const widened = ([lowX, highX, lowY, highY], radius) => [lowX - radius, highX + radius, lowY - radius, highY + radius];
@@ -23,7 +22,7 @@ const alone = (pieces) => pieces.map((piece) => `M ${piece.from} ${piece.draw}`)
 const dots = (places) => places.map(({ x, y }) => `M ${x} ${y} h 0`).join(" ");
 
 function clampElement(k) {
-  return svg("g", { "data-clamp": k + 1, tabindex: 0, role: "button" }, svg("rect", { class: "widened" }), svg("rect", { class: "body" }));
+  return svg("g", { "data-clamp": k + 1, tabindex: 0, role: "button" }, svg("path", { class: "widened" }), svg("path", { class: "body" }));
 }
 
 // An empty picture in an SVG element.
@@ -60,8 +59,8 @@ function drawClamp(element, k, sides, { job, result, chosen }) {
   const clear = isClear(result.listed[k]);
   const [around, body] = element.children;
   set(element, { class: `${clear ? "clear" : "meets"}${k === chosen ? " chosen" : ""}`, "aria-label": verdictWords(k + 1, result.listed[k]) });
-  set(around, rectangle(widened(sides, job.radius)));
-  set(body, rectangle(sides));
+  set(around, { d: outline(widened(sides, job.radius)) });
+  set(body, { d: outline(sides) });
 }
 
 // What changes with the clamps and the verdicts: every listed span, and the boxes of those listed for the chosen clamp, or for any.

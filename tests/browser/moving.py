@@ -2,7 +2,7 @@
 
 import jobs
 import right
-from job_bytes import write_job
+from job_bytes import Job, write_job
 from page import clamp, middle_of
 
 MM = 100  # steps of the grid
@@ -82,6 +82,18 @@ def small_twice(page):
         near("clamp 1", job.clamps[0], wanted, view)
 
 
+def without_width(page):
+    """a clamp without width, and one that is a point, can be seen and dragged, also by a cutter without width"""
+    thin = [(6000, 6000, 600, 1800), (2000, 2000, 3000, 3000)]
+    job = Job(jobs.SIGN.degree, jobs.SIGN.knots, jobs.SIGN.points, 0, [*jobs.SIGN.clamps, *thin])
+    page.load(jobs.written(page.saved, "thin.job", write_job(job)))
+    page.wait("document.querySelectorAll('#verdicts li').length === 7", "the job is not taken")
+    for number, sides in enumerate(thin, len(jobs.SIGN.clamps) + 1):
+        view, wanted = page.view(jobs.SIGN), moved(sides, 5 * MM, 2 * MM)
+        page.drag(view.at(middle_of(sides)), view.at(middle_of(wanted)))
+        near("clamp %d" % number, page.agreed().clamps[number - 1], wanted, view)
+
+
 def dragged_far(page):
     """a clamp dragged across the sheet, and back by another drag"""
     job = dragged(page, 3, 30 * MM, 20 * MM)
@@ -152,6 +164,7 @@ TRIES = (
     each_when_smaller,
     dragged_far,
     small_twice,
+    without_width,
     clicked,
     moved_by_keys,
     off_by_keys,
