@@ -1,26 +1,28 @@
 // Reads a description, as in examples/: a word and its numbers on each line. Whether they make a curve is left to the library.
 
-import { CLAMPS_MOST, KNOTS_MOST, POINTS_MOST } from "./limits.mjs";
+import { BYTE_STORED, COORDINATE_STORED, WORD_STORED } from "./job.mjs";
+import { CLAMPS_MOST, COORDINATE_MOST, KNOTS_MOST, KNOT_MOST, POINTS_MOST, RADIUS_MOST } from "./limits.mjs";
 
-const MOST = 2 ** 31 - 1;
-const LEAST = -(2 ** 31);
-const COORDINATE = "each -262,144 to 262,144 hundredths of a millimetre";
 const SHOWN = 24;
+
+const told = (number) => number.toLocaleString("en");
+
+const COORDINATE = `each -${told(COORDINATE_MOST)} to ${told(COORDINATE_MOST)} hundredths of a millimetre`;
 
 // For each word: how many numbers it takes (0: one or more), what a job can store, how many of it there may be, and what it takes, in words.
 const TAKES = {
-  degree: { count: 1, least: 0, most: 255, room: 1, words: "one number, 1, 2 or 3" },
-  knots: { count: 0, least: 0, most: 65535, room: KNOTS_MOST, words: "whole numbers, each 0 to 16,383" },
-  point: { count: 2, least: LEAST, most: MOST, room: 2 * POINTS_MOST, words: `two numbers, x and y, ${COORDINATE}` },
-  radius: { count: 1, least: 0, most: 65535, room: 1, words: "one number, 0 to 4,096 hundredths of a millimetre" },
-  clamp: { count: 4, least: LEAST, most: MOST, room: 4 * CLAMPS_MOST, words: `four numbers, low x, high x, low y, high y, ${COORDINATE}` },
+  degree: { count: 1, ...BYTE_STORED, room: 1, words: "one number, 1, 2 or 3" },
+  knots: { count: 0, ...WORD_STORED, room: KNOTS_MOST, words: `whole numbers, each 0 to ${told(KNOT_MOST)}` },
+  point: { count: 2, ...COORDINATE_STORED, room: 2 * POINTS_MOST, words: `two numbers, x and y, ${COORDINATE}` },
+  radius: { count: 1, ...WORD_STORED, room: 1, words: `one number, 0 to ${told(RADIUS_MOST)} hundredths of a millimetre` },
+  clamp: { count: 4, ...COORDINATE_STORED, room: 4 * CLAMPS_MOST, words: `four numbers, low x, high x, low y, high y, ${COORDINATE}` },
 };
 const FULL = {
   degree: "the degree is given a second time",
-  knots: "there are more knots than the 1,028 that a job can hold",
-  point: "there are more points than the 1,024 that a job can hold",
+  knots: `there are more knots than the ${told(KNOTS_MOST)} that a job can hold`,
+  point: `there are more points than the ${told(POINTS_MOST)} that a job can hold`,
   radius: "the radius is given a second time",
-  clamp: "there are more clamps than the 64 that a job can hold",
+  clamp: `there are more clamps than the ${told(CLAMPS_MOST)} that a job can hold`,
 };
 const NEEDED = {
   degree: "there is no line with the degree",

@@ -1,14 +1,12 @@
 // What the mouse, a finger and the keys do in the picture.
 
-import { clampOf, withClamp, withPoint, withoutClamp } from "./job.mjs";
-import { panned, toScreen, zoomed } from "./view.mjs";
+import { SIDE_NAMES, clampOf, withClamp, withPoint, withoutClamp } from "./job.mjs";
+import { CLOSER, panned, toScreen, zoomed } from "./view.mjs";
 
 const KEY_STEP = 100;
 const FINE_STEP = 10;
 const PAN = 40;
-const CLOSER = 1.25;
 const ARROWS = { ArrowLeft: [-1, 0], ArrowRight: [1, 0], ArrowDown: [0, -1], ArrowUp: [0, 1] };
-const SIDES = ["left", "right", "bottom", "top"];
 
 const moved = ([lowX, highX, lowY, highY], dx, dy) => [lowX + dx, highX + dx, lowY + dy, highY + dy];
 
@@ -35,7 +33,7 @@ function dragging(target, desk) {
   const inSteps = (handle) => (dx, dy) => handle(Math.round(dx / view.scale), Math.round(-dy / view.scale));
   const clamp = target.closest("[data-clamp]");
   if (target.dataset.side && chosen !== null) {
-    const k = SIDES.indexOf(target.dataset.side);
+    const k = SIDE_NAMES.indexOf(target.dataset.side);
     const sides = clampOf(job, chosen);
     return inSteps((dx, dy) => desk.change(withClamp(job, chosen, sides.with(k, sides[k] + (k < 2 ? dx : dy)))));
   }

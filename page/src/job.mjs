@@ -5,8 +5,12 @@ import { CLAMPS_MOST, KNOTS_MOST, POINTS_MOST, RECORD_MOST } from "./limits.mjs"
 const RADIUS_TAG = 6;
 const CLAMP_TAG = 5;
 const SIDES = 4;
-const STORED_MOST = 2 ** 31 - 1;
-const RADIUS_STORED_MOST = 65535;
+
+// The names of a clamp's sides in their order, and what the fields of a job can store, whether it is sound or not.
+export const SIDE_NAMES = ["left", "right", "bottom", "top"];
+export const COORDINATE_STORED = { least: -(2 ** 31), most: 2 ** 31 - 1 };
+export const WORD_STORED = { least: 0, most: 65535 };
+export const BYTE_STORED = { least: 0, most: 255 };
 
 // The job in some bytes, or the number and the place of what is wrong with them.
 export function readJob(library, bytes) {
@@ -51,7 +55,9 @@ export const clampOf = (job, k) => [...job.clamps.subarray(SIDES * k, SIDES * (k
 export const clampsOf = (job) => Array.from({ length: clampCount(job) }, (_, k) => clampOf(job, k));
 
 // What a job can store of a number, so that one far too large is judged as too large, and not as what is left of it in 32 bits.
-const stored = (number) => Math.max(-STORED_MOST, Math.min(STORED_MOST, Math.round(number)));
+const within = ({ least, most }, number) => Math.max(least, Math.min(most, Math.round(number)));
+
+const stored = (number) => within(COORDINATE_STORED, number);
 
 const changed = (list, at, entries) => {
   const copy = list.slice();
@@ -67,4 +73,4 @@ export const withoutClamp = (job, k) => ({ ...job, clamps: job.clamps.filter((_,
 
 export const withPoint = (job, k, x, y) => ({ ...job, xs: changed(job.xs, k, [stored(x)]), ys: changed(job.ys, k, [stored(y)]) });
 
-export const withRadius = (job, radius) => ({ ...job, radius: Math.max(0, Math.min(RADIUS_STORED_MOST, Math.round(radius))) });
+export const withRadius = (job, radius) => ({ ...job, radius: within(WORD_STORED, radius) });

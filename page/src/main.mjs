@@ -9,10 +9,9 @@ import { libraryOf } from "./memory.mjs";
 import { listenToNumbers } from "./panel.mjs";
 import { programOf, surroundings } from "./program.mjs";
 import { hideUnusable, showUnusable } from "./unusable.mjs";
-import { fromScreen } from "./view.mjs";
+import { CLOSER, fromScreen } from "./view.mjs";
 import { steps } from "./words.mjs";
 
-const CLOSER = 1.25;
 const NEW_CLAMP = 40;
 const SAMPLE = "The sample";
 

@@ -1,12 +1,11 @@
 // The words and numbers beside the picture: verdicts, what can be changed, and the text of clampcheck.
 
-import { clampCount, clampOf } from "./job.mjs";
+import { SIDE_NAMES, clampCount, clampOf } from "./job.mjs";
 import { found, html, kept, set } from "./elements.mjs";
 import { CLAMPS_MOST } from "./limits.mjs";
 import { isClear, millimetres, summaryWords, verdictWords } from "./words.mjs";
 import { scaleOf } from "./view.mjs";
 
-const SIDES = ["left", "right", "bottom", "top"];
 const LONG_TEXT = 200000;
 const RESTING = 250;
 
@@ -29,7 +28,7 @@ function drawChosen({ job, chosen }) {
   found("add").disabled = clampCount(job) === CLAMPS_MOST;
   found("clamp-name").textContent = chosen === null ? "No clamp is chosen" : `Clamp ${chosen + 1}, sides in mm`;
   const sides = chosen === null ? null : clampOf(job, chosen);
-  SIDES.forEach((side, k) => {
+  SIDE_NAMES.forEach((side, k) => {
     if (sides === null) found(side).value = "";
     else show(side, sides[k]);
   });
@@ -76,7 +75,7 @@ export function listenToNumbers({ side, radius, choosePoint, point, unread }) {
     if (Number.isFinite(number)) handle(number);
     else unread();
   });
-  SIDES.forEach((id, k) => typed(id, (number) => side(k, number)));
+  SIDE_NAMES.forEach((id, k) => typed(id, (number) => side(k, number)));
   typed("radius", radius);
   typed("point", choosePoint);
   ["point-x", "point-y"].forEach((id, axis) => typed(id, (number) => point(axis, number)));

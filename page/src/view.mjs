@@ -1,5 +1,8 @@
 // Where things stand on the screen: zoom and pan, from steps of the grid to pixels and back.
 
+// How many times closer one press or one notch of the wheel goes.
+export const CLOSER = 1.25;
+
 const MARGIN = 40;
 const CLOSEST = 20;
 const FARTHEST = 1 / 2000;
