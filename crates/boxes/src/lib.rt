@@ -1,4 +1,6 @@
 // The closed box round some control points, an axis at a time, whether it meets a closed rectangle, and a rectangle widened.
+#![tactic(auto)]
+
 ghost use Rattle.std.specs.Prelude.{true, ◌≡◌};
 ghost use Rattle.grid.specs.Rows.{rectangle_ok, radius_ok};
 ghost use Rattle.boxes.specs.Extent.{lesser, greater};

@@ -1,1 +1,2 @@
 // Where judging finds bytes broken, there is their leftmost fault. There is nothing here that runs.
+#![tactic(auto)]

@@ -1,4 +1,6 @@
 // The carrying coordinates of a parameter: a part of the caller's own list.
+#![tactic(auto)]
+
 ghost use Rattle.std.specs.Prelude.{◌≡◌, ◌≤◌, ◌<◌, length};
 ghost use Rattle.domain.specs.Parameter.{parameter_number};
 ghost use Rattle.span.specs.Span.{carrying_of};

@@ -1,4 +1,6 @@
 // Clamping both ends of a curve ("Ends that are not clamped"): the call, for any input.
+#![tactic(auto)]
+
 mod carrying;
 mod judging;
 mod writing;

@@ -1,4 +1,6 @@
 // All lines on a clamp, put at the front of a lent list: one for each span on which the cutter may meet it, or one that it is clear.
+#![tactic(auto)]
+
 ghost use Rattle.std.specs.Prelude.{◌≡◌, ◌+◌, ◌*◌, ◌≤◌, length};
 ghost use Rattle.curve.specs.Lists.{lists};
 ghost use Rattle.grid.specs.Limits.{clamps_most};

@@ -1,5 +1,7 @@
 // The rows at an end of a curve ("Ends that are not clamped"), worked out in whole numbers. What is read of an end is gathered into one struct,
 // inwards from the end of the domain, so that the same functions serve the start and the end, on both axes.
+#![tactic(auto)]
+
 mod gathering;
 
 ghost use Rattle.std.specs.Prelude.{◌≡◌, ◌+◌, ◌*◌, ◌≤◌, pos, nat_abs, ◌*ℤ◌};

@@ -1,4 +1,6 @@
 // clampcheck: reads a job on standard input and tells which spans of its curve may meet which clamp.
+#![tactic(auto)]
+
 ghost use Rattle.std.specs.Prelude.{◌≡◌, ◌+◌, ◌≤◌, ◌<◌, length};
 ghost use Rattle.io.specs.Counts.{IsPrefixLen};
 ghost use Rattle.curve.specs.Lists.{lists};

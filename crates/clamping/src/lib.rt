@@ -1,4 +1,5 @@
 // Clamping a curve's ends ("Ends that are not clamped"): what it means stands in specs/. Here is the number that its rows are worked out in.
+#![tactic(auto)]
 
 // The number upper / lower.
 #[derive(Drop)]

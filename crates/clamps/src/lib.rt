@@ -1,4 +1,6 @@
 // The clamps behind a record: their fields' structure, row 14 for each, and their sides.
+#![tactic(auto)]
+
 ghost use Rattle.std.specs.Prelude.{◌≡◌, ◌+◌, ◌*◌, ◌≤◌, length};
 ghost use Rattle.lent.specs.Lent.{over};
 ghost use Rattle.grid.specs.Rows.{rectangle_ok};

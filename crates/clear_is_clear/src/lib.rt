@@ -1,1 +1,2 @@
 // Why "clear" is clear. There is nothing here that runs.
+#![tactic(auto)]

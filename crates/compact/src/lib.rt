@@ -1,4 +1,6 @@
 // Compacting a curve ("Inserting and removing a knot"): the call, for any input.
+#![tactic(auto)]
+
 mod sizes;
 
 ghost use Rattle.std.specs.Prelude.{◌≡◌};

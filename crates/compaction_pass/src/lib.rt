@@ -1,5 +1,7 @@
 // The parts of compacting a curve ("Inserting and removing a knot"). The curve comes into working lists point by point; as soon as the last knot
 // of a value is there, the value is dealt with. A removal changes the last few points alone, so a pass takes time in proportion to the lists.
+#![tactic(auto)]
+
 mod start;
 
 ghost use Rattle.grid.specs.Check.{Passes};

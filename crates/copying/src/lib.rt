@@ -1,4 +1,6 @@
 // Copying a lent list over another: as many entries as both have room for, the rest as before.
+#![tactic(auto)]
+
 ghost use Rattle.std.specs.Prelude.{◌≡◌, min, length, take};
 ghost use Rattle.lent.specs.Lent.{over};
 

@@ -1,4 +1,6 @@
 // Hands a curve's three lists over into three lent ones: all of them where there is room for all, or none.
+#![tactic(auto)]
+
 ghost use Rattle.std.specs.Prelude.{◌≡◌};
 ghost use Rattle.curve.specs.HandingOver.{enough, room_number, handed_over};
 ghost use Rattle.curve.specs.Lists.{lists};

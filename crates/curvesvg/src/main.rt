@@ -1,4 +1,6 @@
 // curvesvg: reads a record on standard input and writes its curve as path data of SVG.
+#![tactic(auto)]
+
 ghost use Rattle.std.specs.Prelude.{◌<◌, length};
 ghost use Rattle.io.specs.Counts.{IsPrefixLen};
 ghost use Rattle.curve.specs.Lists.{lists};

@@ -1,5 +1,7 @@
 // One axis of a span that becomes a piece: a row holds the points that carry the span, and a step makes of it the row with one insertion more.
 // The span's low knot stands m times already, so every point that an insertion of its high knot makes is a mean between the two same knots.
+#![tactic(auto)]
+
 ghost use Rattle.std.specs.Prelude.{◌≡◌, ◌-◌, ◌≤◌, ◌<◌, pos, nat_abs};
 ghost use Rattle.std.specs.Int.Signed.{quot_z};
 ghost use Rattle.grid.specs.Limits.{coordinate_most};

@@ -1,4 +1,6 @@
 // The insertions that make a span a piece: its high knot goes in until it stands m times, on both axes, unless an insertion is refused.
+#![tactic(auto)]
+
 ghost use Rattle.std.specs.Prelude.{◌≡◌, List, ℕ, ◌+◌, ◌≤◌, ◌<◌, ℤ};
 ghost use Rattle.curve.specs.Lists.{Lists, lists};
 ghost use Rattle.cut_rows.specs.Row.{RowStands};

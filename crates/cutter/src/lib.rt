@@ -1,4 +1,6 @@
 // The cutter's radius in a job: its field between the record and the clamps.
+#![tactic(auto)]
+
 ghost use Rattle.std.specs.Prelude.{◌≡◌, ◌+◌, ◌≤◌, length};
 ghost use Rattle.taken_field.specs.Taking.{field_at};
 ghost use Rattle.cutter.specs.Radius.{radius_field_bytes};

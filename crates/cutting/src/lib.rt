@@ -1,4 +1,5 @@
 // What it means to cut a curve at its knots, and the piece that stands between two of them. There is nothing here that runs.
+#![tactic(auto)]
 
 // A piece of a curve: its two knots and its points, x and y; it has one point more than its degree, and unused places are 0.
 #[derive(Drop)]

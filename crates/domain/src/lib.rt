@@ -1,4 +1,6 @@
 // What a call at a parameter is refused with.
+#![tactic(auto)]
+
 ghost use Rattle.std.specs.Prelude.{◌≡◌};
 ghost use Rattle.domain.specs.Parameter.{parameter_number};
 

@@ -1,1 +1,2 @@
 // Laws alone: what the contracts of the exports to C settle.
+#![tactic(auto)]

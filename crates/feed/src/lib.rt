@@ -1,4 +1,6 @@
 // Reads a job that comes in bursts: each burst is kept in a work list, which is lent to every call, and all of them are read at the end.
+#![tactic(auto)]
+
 ghost use Rattle.std.specs.Prelude.{◌≡◌, ◌≤◌, length};
 ghost use Rattle.grid.specs.Limits.{job_most};
 ghost use Rattle.curve.specs.Lists.{lists};

@@ -1,4 +1,6 @@
 // Numbers in bytes, low byte first: one at a place, and lists of them from a place on.
+#![tactic(auto)]
+
 ghost use Rattle.std.specs.Prelude.{◌≡◌, ◌+◌, ◌*◌, ◌≤◌, ◌<◌, length};
 ghost use Rattle.fields.specs.Bytes.{twos_complement, u16_bytes, i32_bytes, field_head, knot_bytes, coordinate_bytes};
 ghost use Rattle.fields.specs.Places.{u16_at, u32_at, i32_at, knots_at, coordinates_at, put_at};

@@ -1,5 +1,7 @@
 // A record's tags, and how many bytes of heads and degree stand in front of each field's contents.
 // What they mean stands in specs/, name for name.
+#![tactic(auto)]
+
 pub const DEGREE_TAG: u8 = 1;
 
 pub const KNOTS_TAG: u8 = 2;

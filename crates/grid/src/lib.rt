@@ -1,5 +1,7 @@
 // The curve on the grid: its limits, and the check that every call begins with.
 // What the limits and the check mean stands in specs/, name for name.
+#![tactic(auto)]
+
 mod counts;
 mod ends;
 mod order;

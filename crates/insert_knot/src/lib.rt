@@ -1,4 +1,6 @@
 // Inserting a knot into a curve ("Inserting and removing a knot"): the call, for any input.
+#![tactic(auto)]
+
 mod inserting;
 mod judging;
 mod writing;

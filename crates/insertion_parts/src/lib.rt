@@ -1,4 +1,6 @@
 // The parts of inserting a knot ("Inserting and removing a knot"), on slices, for a curve that has passed the check.
+#![tactic(auto)]
+
 ghost use Rattle.std.specs.Prelude.{true, ◌≡◌, ◌+◌, ◌≤◌, ◌<◌, ◌^◌, leb, pos, nat_abs, ◌+ℤ◌, ◌*ℤ◌, length, get_or};
 ghost use Rattle.std.specs.Int.Signed.{quot_z};
 ghost use Rattle.grid.specs.Rows.{knot_order_ok, occurrences};

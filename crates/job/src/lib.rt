@@ -1,4 +1,6 @@
 // Reads a job: a curve's record, and behind it the cutter's radius and the clamps.
+#![tactic(auto)]
+
 mod sound;
 
 ghost use Rattle.std.specs.Prelude.{◌≡◌, ◌≤◌};

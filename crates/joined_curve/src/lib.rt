@@ -1,4 +1,6 @@
 // The joined curve, written over lent lists. How often an inner parameter stands is an argument: twice or three times.
+#![tactic(auto)]
+
 mod knots;
 mod points;
 

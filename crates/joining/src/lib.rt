@@ -1,4 +1,6 @@
 // Joining spline points into a B-spline of degree 3 ("Joining spline points").
+#![tactic(auto)]
+
 mod spline_points;
 
 ghost use Rattle.std.specs.Prelude.{◌≡◌};

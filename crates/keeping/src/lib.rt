@@ -1,4 +1,6 @@
 // A burst kept in a work list behind the bytes received so far, and counted.
+#![tactic(auto)]
+
 ghost use Rattle.std.specs.Prelude.{◌≡◌};
 ghost use Rattle.lent.specs.Lent.{over};
 ghost use Rattle.keeping.specs.Kept.{kept_with, received_with};

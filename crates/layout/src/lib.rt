@@ -1,4 +1,6 @@
 // Reads the structure of bytes, field by field from the left: sound, or the leftmost fault with its place.
+#![tactic(auto)]
+
 ghost use Rattle.std.specs.Prelude.{◌≡◌, ◌≤◌};
 ghost use Rattle.grid.specs.Limits.{knot_bytes_most};
 ghost use Rattle.layout.specs.Judging.{from_x, record_layout, whole_record};

@@ -1,4 +1,6 @@
 // Lines of text, put into a lent list from a place on.
+#![tactic(auto)]
+
 ghost use Rattle.std.specs.Prelude.{◌≡◌, ◌+◌, ◌≤◌, length};
 ghost use Rattle.digits.specs.Put.{Put};
 ghost use Rattle.lines.specs.Lines.{labelled, one_number, two_numbers, three_numbers, curve_line, meet_line, clear_line, refused_line, broken_line, meet_lines};

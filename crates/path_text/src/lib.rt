@@ -1,4 +1,6 @@
 // Path data, piece by piece: how long its parts are, and the parts put into a lent list from a place on.
+#![tactic(auto)]
+
 mod measuring;
 mod putting;
 

@@ -1,4 +1,6 @@
 // The words of path data, a number, a pair of them and the letter of a degree: how long they are, and each put into a lent list from a place on.
+#![tactic(auto)]
+
 mod letters;
 mod measuring;
 mod putting;

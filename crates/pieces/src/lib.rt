@@ -1,5 +1,7 @@
 // The pieces of a curve, one at a time from left to right ("Out to SVG"): a walk stands at a span, and a step hands out the span's piece, by value, and the walk
 // to the next span. A step looks at the points of one span alone, so that all pieces take time in proportion to the lists.
+#![tactic(auto)]
+
 mod inner;
 mod loading;
 mod runs;

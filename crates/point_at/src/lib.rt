@@ -1,4 +1,6 @@
 // The point at a whole parameter, bit for bit by the triangle, or the number of a refusal.
+#![tactic(auto)]
+
 ghost use Rattle.std.specs.Prelude.{◌≡◌};
 ghost use Rattle.point_at.specs.Point.{answer_of};
 

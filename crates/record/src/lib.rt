@@ -1,4 +1,6 @@
 // Writes a curve as a record, and reads one.
+#![tactic(auto)]
+
 mod sound;
 
 ghost use Rattle.std.specs.Prelude.{◌≡◌};

@@ -1,4 +1,6 @@
 // Puts the fields of a curve's record into bytes, one behind the other.
+#![tactic(auto)]
+
 ghost use Rattle.std.specs.Prelude.{◌≡◌, [], ◌∷◌, ◌+◌, ◌*◌, ◌≤◌, ◌<◌, length};
 ghost use Rattle.fields.specs.Bytes.{field_bytes, knot_bytes, coordinate_bytes};
 ghost use Rattle.fields.specs.Places.{put_at};

@@ -1,4 +1,6 @@
 // The numbers of refusal, for code. Their meaning stands in specs/Numbers.antt, name for name.
+#![tactic(auto)]
+
 pub const ACCEPTED: u32 = 0;
 
 pub const DEGREE: u32 = 1;

@@ -1,4 +1,6 @@
 // Removing a knot ("Inserting and removing a knot") from both axes, on slices, for a curve that has passed the check.
+#![tactic(auto)]
+
 mod knots;
 
 ghost use Rattle.std.specs.Prelude.{◌≡◌, ◌+◌, length};

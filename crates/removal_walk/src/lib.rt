@@ -1,4 +1,6 @@
 // Removing a knot ("Inserting and removing a knot") on one axis, on slices, for a curve that has passed the check.
+#![tactic(auto)]
+
 mod forward;
 mod walk;
 

@@ -1,4 +1,6 @@
 // Removing a knot from a curve ("Inserting and removing a knot"): the call, for any input.
+#![tactic(auto)]
+
 mod judging;
 mod work;
 

@@ -1,4 +1,6 @@
 // The text of `clampcheck`, a part at a time: part 0 is the line on the curve or on the refusal, part k all lines on clamp k.
+#![tactic(auto)]
+
 mod curve_line;
 
 ghost use Rattle.std.specs.Prelude.{◌≤◌, length};

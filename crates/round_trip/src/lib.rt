@@ -1,1 +1,2 @@
 // Reading and writing undo each other. There is nothing here that runs.
+#![tactic(auto)]

@@ -1,5 +1,7 @@
 // The triangle in one row: an array of four numbers that goes into a step and comes out of it by value, with the next row written over the one before.
 // Entries stand from place 3 to the left: every place is a fixed one, whatever the degree, so the compiler keeps the row in registers.
+#![tactic(auto)]
+
 ghost use Rattle.std.specs.Prelude.{◌≡◌, List, ℕ, ◌+◌, ◌-◌, ◌≤◌, ◌<◌, ℤ, pos, length, get_or};
 ghost use Rattle.std.specs.Float.Ieee.{of_int};
 ghost use Rattle.std.specs.Float.{binary64};

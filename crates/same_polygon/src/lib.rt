@@ -1,1 +1,2 @@
 // The curve determines its polygon. There is nothing here that runs.
+#![tactic(auto)]

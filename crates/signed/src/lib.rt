@@ -1,4 +1,6 @@
 // Casts and products of coordinates and knots, in a width in which sums of them fit. The laws on signed numbers stand in proofs/.
+#![tactic(auto)]
+
 ghost use Rattle.std.specs.Prelude.{◌≡◌, pos, ◌*ℤ◌};
 
 // The same number, 64 bits wide.

@@ -1,4 +1,6 @@
 // The span that holds a whole parameter, found by walking the spans from the right; and whether the domain holds it.
+#![tactic(auto)]
+
 ghost use Rattle.std.specs.Prelude.{◌≡◌, get_or};
 ghost use Rattle.span.specs.Span.{starts_at, span_of, in_domain, strictly_inside};
 

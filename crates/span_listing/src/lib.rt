@@ -1,4 +1,6 @@
 // Writing the spans to check into two lent lists.
+#![tactic(auto)]
+
 ghost use Rattle.std.specs.Prelude.{◌≡◌, ◌≤◌, length};
 ghost use Rattle.refusal.specs.Numbers.{accepted};
 ghost use Rattle.grid.specs.Sizes.{Sizes};

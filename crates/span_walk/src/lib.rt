@@ -1,4 +1,6 @@
 // The spans of a curve that has passed the check: which are to be checked against a clamp, and how many are not empty.
+#![tactic(auto)]
+
 ghost use Rattle.std.specs.Prelude.{◌≡◌, ◌≤◌, ◌<◌, length};
 ghost use Rattle.grid.specs.Sizes.{Sizes};
 ghost use Rattle.span.specs.Span.{carrying_of};

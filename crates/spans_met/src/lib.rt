@@ -1,4 +1,6 @@
 // The list of spans on which a cutter may meet a clamp.
+#![tactic(auto)]
+
 ghost use Rattle.std.specs.Prelude.{◌≡◌};
 ghost use Rattle.curve.specs.Lists.{lists};
 ghost use Rattle.span_walk.specs.SpanLists.{span_lists};

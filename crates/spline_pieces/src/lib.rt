@@ -1,4 +1,6 @@
 // The pieces between spline points ("Joining spline points"), on one axis: their inner points, and rows 11 and 18 over them.
+#![tactic(auto)]
+
 mod points;
 mod reach;
 

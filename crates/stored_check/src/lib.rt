@@ -1,5 +1,7 @@
 // What the check says of the curve that stands in bytes. The curve is read into work lists, the shortest that hold it:
 // a new list is cleared, and the longest would cost a curve of four points more than all the rest of its reading.
+#![tactic(auto)]
+
 ghost use Rattle.std.specs.Prelude.{true, ◌≡◌, ◌/◌, length};
 ghost use Rattle.grid.specs.Limits.{points_most};
 ghost use Rattle.curve.specs.HandingOver.{enough};

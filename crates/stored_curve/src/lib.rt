@@ -1,4 +1,6 @@
 // The curve that stands in bytes with a sound layout: its degree, and its lists handed over into lent ones.
+#![tactic(auto)]
+
 ghost use Rattle.std.specs.Prelude.{true, ◌≡◌, ◌/◌, ◌<◌, length};
 ghost use Rattle.curve.specs.HandingOver.{enough, room_number, handed_over};
 ghost use Rattle.curve.specs.Lists.{lists};

@@ -1,6 +1,8 @@
 // A curve as path data of SVG ("Out to SVG"): the call, for any input. A curve with open ends is clamped into work lists first; one with clamped ends is its own
 // clamped copy, and is written from the lists themselves. The pieces are walked twice, to measure the text and to write it, so that a refusal leaves the lent list
 // as it was found.
+#![tactic(auto)]
+
 mod measuring;
 mod open_ends;
 mod writing;

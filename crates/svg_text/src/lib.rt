@@ -1,4 +1,6 @@
 // The text of `curvesvg` ("Out to SVG"): a record's path data and a newline, or the line on its refusal.
+#![tactic(auto)]
+
 ghost use Rattle.std.specs.Prelude.{◌+◌, ◌≤◌, ◌<◌, length};
 ghost use Rattle.curve.specs.Lists.{lists};
 ghost use Rattle.grid.specs.Limits.{svg_most};

@@ -1,1 +1,2 @@
 // The path data of whole curves. There is nothing here that runs.
+#![tactic(auto)]

@@ -1,4 +1,6 @@
 // Judges one field of bytes: its tag, then its length, then its contents; or tells the first fault with its place.
+#![tactic(auto)]
+
 ghost use Rattle.std.specs.Prelude.{◌≡◌};
 ghost use Rattle.taken_field.specs.Taking.{length_ok, field_at};
 

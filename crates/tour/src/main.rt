@@ -1,5 +1,7 @@
 // The library as a Rattle caller uses it, on the worked curves A and B: the point, the carrying coordinates and a knot inserted. It prints a line for
 // each answer; a coordinate of a point is printed by its 64 bits, in 16 hexadecimal digits.
+#![tactic(auto)]
+
 use carrying::Axis;
 use insert_knot::InsertAnswer;
 use libc::STDOUT_FILENO;

@@ -1,4 +1,6 @@
 // One cell of the triangle in binary64: the left product, the right product, their sum and the quotient are rounded, in this order.
+#![tactic(auto)]
+
 ghost use Rattle.std.specs.Prelude.{◌≡◌, pos, ◌-ℤ◌};
 ghost use Rattle.triangle.specs.FloatCell.{float_cell};
 

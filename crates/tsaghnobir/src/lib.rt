@@ -1,5 +1,7 @@
 // The calls as C, C++, Rust and Python programs see them: include/tsaghnobir.h declares these functions.
 // Each answers with the number of refusal, 0 for none, and writes through lent places what the wrapped call answers.
+#![tactic(auto)]
+
 mod bursts;
 mod bytes;
 mod drawings;

@@ -1,5 +1,7 @@
 // The numbers of a curve's right end when it is unclamped ("Ends that are not clamped"), on one axis: what stands above and below the line of each of the last
 // m - 1 points afterwards. For a curve that has passed the check with a clamped right end.
+#![tactic(auto)]
+
 ghost use Rattle.std.specs.Prelude.{◌≡◌, ◌+◌, ◌-◌, ◌≤◌, ◌<◌, ◌^◌, pos, nat_abs, ◌-ℤ◌, ◌*ℤ◌, length, get_or};
 ghost use Rattle.curve.specs.Lists.{NeverFall};
 ghost use Rattle.clamping.specs.EndRows.{finish_of};

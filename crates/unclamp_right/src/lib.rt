@@ -1,4 +1,6 @@
 // Unclamping a curve at its right end ("Ends that are not clamped"): the call, for any input.
+#![tactic(auto)]
+
 mod judging;
 mod opening;
 mod writing;

@@ -1,4 +1,6 @@
 // Removing the newest value of a front that grows.
+#![tactic(auto)]
+
 ghost use Rattle.std.specs.Prelude.{◌≡◌, ◌<◌, get_or};
 ghost use Rattle.value_removal.specs.Work.{newest, Growing, TryOutcome, ValueOutcome};
 

@@ -1,4 +1,6 @@
 // One try to remove a knot, in its window: the m + 2 points and 2m + 3 knots round it.
+#![tactic(auto)]
+
 ghost use Rattle.std.specs.Prelude.{◌≡◌, ◌+◌, ◌≤◌, length, take};
 ghost use Rattle.window.specs.Window.{closed, Window, WindowOutcome};
 

@@ -1,4 +1,6 @@
 // Compacting a curve that has passed the check ("Inserting and removing a knot"), in work lists that are lent.
+#![tactic(auto)]
+
 ghost use Rattle.std.specs.Prelude.{◌≤◌, length};
 ghost use Rattle.grid.specs.Check.{Passes};
 ghost use Rattle.curve.specs.Lists.{lists};
