@@ -1,12 +1,12 @@
 -- One law over a chain of tests, each with its number and with the sentence that its failing says: the answer is that of the first row that applies.
-use mathlib.Core.Bool.{Bool, true, false, not, ◌&&◌, true≢false, false≢true}
+use mathlib.Core.Bool.{Bool, true, false, not, ◌&&◌, true≢false}
 use mathlib.Core.List.{List, [], ◌∷◌}
 use mathlib.Core.Logic.{◌⊎◌, inl, inr, ⊎_elim, ◌↔◌}
 use mathlib.Core.Path.{◌≡◌, refl, sym, ◌∙◌, ap}
 use Prim.Native.Nat.{ℕ, zero, suc, ◌<◌}
 use native.Mathlib.Omega.{arith}
 use lib.Dec.{eqb}
-use lib.ListN.{length, get_or}
+use lib.ListN.{length}
 use borrow.Author.Tests.{eqb-false, not-true}
 use Rattle.refusal.specs.Judging.{unless}
 use Rattle.refusal.specs.Chain.{Row, row, number_at, AppliesAt, AnswersFirst}
