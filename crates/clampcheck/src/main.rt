@@ -2,7 +2,7 @@
 #![tactic(auto)]
 
 ghost use Rattle.std.specs.Prelude.{◌≡◌, ◌+◌, ◌≤◌, ◌<◌, length};
-ghost use Rattle.io.specs.Counts.{IsPrefixLen};
+ghost use Rattle.std.specs.Counts.{IsPrefixLen};
 ghost use Rattle.curve.specs.Lists.{lists};
 ghost use Rattle.grid.specs.Limits.{clamps_most, job_most};
 ghost use Rattle.clamp_lines.specs.Places.{text_most};
@@ -10,19 +10,20 @@ ghost use Rattle.job_text.specs.Text.{PartOf};
 ghost use Rattle.job_text.specs.Program.{Places, ReadInPlaces};
 
 use job::JobAnswer;
-use libc::{STDIN_FILENO, STDOUT_FILENO};
+use std::io::{Read, Stdin, Stdout, Write};
 
 // Writes part k of the text of the job, asks that it be that part, and answers the number of the next. What cannot be written is lost.
-fn write_part(job: &[u8], k: usize, part: &[u8]) -> usize
+fn write_part(out: &mut Stdout, job: &[u8], k: usize, part: &[u8]) -> usize
     requires { (k ≤ clamps_most) × PartOf job.now k part.now }
     ensures count { result ≡ k + 1 }
 {
-    io::write_all(STDOUT_FILENO, part);
+    let _ = out.write_all(part);
     k + 1
 }
 
 // Writes the parts of the text one after the other, and answers how many: as many as make the whole text.
 fn write_parts(
+    out: &mut Stdout,
     job: &[u8],
     answer: JobAnswer,
     knots: &[u16],
@@ -37,13 +38,14 @@ fn write_parts(
     let mut k = 0;
     while k <= grid::CLAMPS_MOST {
         let n = report::put_part(answer, knots, xs, ys, sides, k, text);
-        k = write_part(job, k, &text[..n]);
+        k = write_part(out, job, k, &text[..n]);
     }
     k
 }
 
 // Reads a job into places for the longest one, and writes its text.
 fn tell(
+    out: &mut Stdout,
     job: &[u8],
     knots: &mut [u16],
     xs: &mut [i32],
@@ -54,17 +56,18 @@ fn tell(
     requires { Places (lists knots.old xs.old ys.old) sides.old × (text_most ≤ length text.old) }
 {
     let answer = job::read_job(job, knots, xs, ys, sides);
-    write_parts(job, answer, knots, xs, ys, sides, text);
+    write_parts(out, job, answer, knots, xs, ys, sides, text);
 }
 
 // The places.
-fn tell_in_places(job: &[u8]) {
+fn tell_in_places(out: &mut Stdout, job: &[u8]) {
     let mut knots = [0u16; grid::KNOTS_MOST];
     let mut xs = [0i32; grid::POINTS_MOST];
     let mut ys = [0i32; grid::POINTS_MOST];
     let mut sides = [0i32; grid::SIDES_MOST];
     let mut text = [0u8; report::TEXT_MOST];
     tell(
+        out,
         job,
         &mut knots[..grid::KNOTS_MOST],
         &mut xs[..grid::POINTS_MOST],
@@ -74,16 +77,24 @@ fn tell_in_places(job: &[u8]) {
     );
 }
 
-// Reads all input. Where it is longer than the longest job, a byte too many shows it.
-fn read_input(input: &mut [u8]) -> usize
+// Reads all input; where it fails, the input ends there. Where it is longer than the longest job, a byte too many shows it.
+fn read_input(from: &mut Stdin, input: &mut [u8]) -> usize
     requires { job_most < length input.old }
     ensures count { IsPrefixLen result input.new }
 {
-    io::read_full(STDIN_FILENO, input)
+    let mut filled = 0;
+    for _ in 0..input.len() {
+        let count = from.read(&mut input[filled..]).unwrap_or(0);
+        if count == 0 {
+            break;
+        }
+        filled += count;
+    }
+    filled
 }
 
-fn main() {
+fn main(rt: HostRuntime) {
     let mut input = [0u8; grid::JOB_MOST + 1];
-    let n = read_input(&mut input);
-    tell_in_places(&input[..n]);
+    let n = read_input(&mut rt.stdin(), &mut input);
+    tell_in_places(&mut rt.stdout(), &input[..n]);
 }

@@ -10,8 +10,7 @@ ghost use Rattle.tsaghnobir.specs.Outcomes.{FeedHandsBack};
 use crate::bytes;
 use feed::{BurstAnswer, Feed};
 
-#[unsafe(no_mangle)]
-pub extern "C" fn tsb_feed(burst: &[u8], work: &mut [u8], received: &mut usize) -> u32
+pub fn tsb_feed(burst: &[u8], work: &mut [u8], received: &mut usize) -> u32
     ensures answer { result ≡ work_number work.old }
     ensures result { work.new ≡ after result (kept_with received.old burst.now work.old) work.old }
     ensures count { received.new ≡ placed result (received_with received.old burst.now work.old) received.old }
@@ -29,8 +28,7 @@ pub extern "C" fn tsb_feed(burst: &[u8], work: &mut [u8], received: &mut usize) 
     }
 }
 
-#[unsafe(no_mangle)]
-pub extern "C" fn tsb_feed_end(
+pub fn tsb_feed_end(
     work: &[u8],
     out_knots: &mut [u16],
     out_xs: &mut [i32],

@@ -12,8 +12,7 @@ ghost use Rattle.tsaghnobir.specs.Answered.{job_placed};
 use job::JobAnswer;
 use record::{ReadAnswer, WriteAnswer};
 
-#[unsafe(no_mangle)]
-pub extern "C" fn tsb_write_record(
+pub fn tsb_write_record(
     degree: u32,
     knots: &[u16],
     xs: &[i32],
@@ -37,8 +36,7 @@ pub extern "C" fn tsb_write_record(
     }
 }
 
-#[unsafe(no_mangle)]
-pub extern "C" fn tsb_read_record(
+pub fn tsb_read_record(
     bytes: &[u8],
     out_knots: &mut [u16],
     out_xs: &mut [i32],
@@ -69,8 +67,7 @@ pub extern "C" fn tsb_read_record(
     }
 }
 
-#[unsafe(no_mangle)]
-pub extern "C" fn tsb_read_job(
+pub fn tsb_read_job(
     bytes: &[u8],
     out_knots: &mut [u16],
     out_xs: &mut [i32],

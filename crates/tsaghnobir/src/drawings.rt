@@ -8,8 +8,7 @@ ghost use Rattle.tsaghnobir.specs.Places.{placed};
 
 use svg_out::SvgAnswer;
 
-#[unsafe(no_mangle)]
-pub extern "C" fn tsb_svg(
+pub fn tsb_svg(
     degree: u32,
     knots: &[u16],
     xs: &[i32],

@@ -9,8 +9,7 @@ ghost use Rattle.tsaghnobir.specs.Places.{placed};
 use clamp_ends::ClampAnswer;
 use unclamp_right::UnclampAnswer;
 
-#[unsafe(no_mangle)]
-pub extern "C" fn tsb_clamp_ends(
+pub fn tsb_clamp_ends(
     degree: u32,
     knots: &[u16],
     xs: &[i32],
@@ -38,8 +37,7 @@ pub extern "C" fn tsb_clamp_ends(
     }
 }
 
-#[unsafe(no_mangle)]
-pub extern "C" fn tsb_unclamp_right(
+pub fn tsb_unclamp_right(
     degree: u32,
     knots: &[u16],
     xs: &[i32],

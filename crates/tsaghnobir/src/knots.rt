@@ -11,8 +11,7 @@ use compact::CompactAnswer;
 use insert_knot::InsertAnswer;
 use remove_knot::RemoveAnswer;
 
-#[unsafe(no_mangle)]
-pub extern "C" fn tsb_insert(
+pub fn tsb_insert(
     degree: u32,
     knots: &[u16],
     xs: &[i32],
@@ -40,8 +39,7 @@ pub extern "C" fn tsb_insert(
     }
 }
 
-#[unsafe(no_mangle)]
-pub extern "C" fn tsb_remove(
+pub fn tsb_remove(
     degree: u32,
     knots: &[u16],
     xs: &[i32],
@@ -66,8 +64,7 @@ pub extern "C" fn tsb_remove(
     }
 }
 
-#[unsafe(no_mangle)]
-pub extern "C" fn tsb_compact(
+pub fn tsb_compact(
     degree: u32,
     knots: &[u16],
     xs: &[i32],

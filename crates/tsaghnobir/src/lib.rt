@@ -1,4 +1,4 @@
-// The calls as C, C++, Rust and Python programs see them: include/tsaghnobir.h declares these functions.
+// The calls as C, C++, Rust and Python programs see them: include/tsaghnobir.h declares these functions, and the crate `tsaghnobir_c` exports them.
 // Each answers with the number of refusal, 0 for none, and writes through lent places what the wrapped call answers.
 #![tactic(auto)]
 

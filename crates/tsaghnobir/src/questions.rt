@@ -14,15 +14,13 @@ use boxes::Rectangle;
 use point_at::PointAnswer;
 use spans_met::SpansAnswer;
 
-#[unsafe(no_mangle)]
-pub extern "C" fn tsb_check(degree: u32, knots: &[u16], xs: &[i32], ys: &[i32]) -> u32
+pub fn tsb_check(degree: u32, knots: &[u16], xs: &[i32], ys: &[i32]) -> u32
     ensures answer { result ≡ check_number degree knots.now xs.now ys.now }
 {
     grid::check(degree, knots, xs, ys)
 }
 
-#[unsafe(no_mangle)]
-pub extern "C" fn tsb_point(
+pub fn tsb_point(
     degree: u32,
     knots: &[u16],
     xs: &[i32],
@@ -47,8 +45,7 @@ pub extern "C" fn tsb_point(
 }
 
 // The carrying points of t are the entries `first` to `first` + `degree` of both coordinate lists.
-#[unsafe(no_mangle)]
-pub extern "C" fn tsb_carrying(
+pub fn tsb_carrying(
     degree: u32,
     knots: &[u16],
     xs: &[i32],
@@ -69,8 +66,7 @@ pub extern "C" fn tsb_carrying(
     refusal::ACCEPTED
 }
 
-#[unsafe(no_mangle)]
-pub extern "C" fn tsb_spans(
+pub fn tsb_spans(
     degree: u32,
     knots: &[u16],
     xs: &[i32],

@@ -23,8 +23,7 @@ fn told(given: JoinAnswer, points: &mut usize) -> u32
     }
 }
 
-#[unsafe(no_mangle)]
-pub extern "C" fn tsb_join(
+pub fn tsb_join(
     params: &[u16],
     px: &[i32],
     py: &[i32],
@@ -48,8 +47,7 @@ pub extern "C" fn tsb_join(
     told(given, points)
 }
 
-#[unsafe(no_mangle)]
-pub extern "C" fn tsb_join_through_points(
+pub fn tsb_join_through_points(
     params: &[u16],
     px: &[i32],
     py: &[i32],
