@@ -1,6 +1,5 @@
 -- The point call's answer is what its sentences say.
 use mathlib.Core.Path.{sym, ap}
-use Prim.Native.Nat.{◌-◌}
 use lib.Dec.{eqb-suc-zero}
 use lib.IntN.{ℤ}
 use lib.Ieee.{binary64, of_int}
