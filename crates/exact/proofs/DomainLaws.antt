@@ -5,7 +5,7 @@ use mathlib.Core.Path.{◌≡◌}
 use Prim.Native.Nat.{ℕ, zero, ◌+◌, ◌-◌, ◌<◌}
 use native.Mathlib.Omega.{arith}
 use lib.IntN.{ℤ}
-use lib.ListN.{length, get_or}
+use lib.ListN.{length}
 use Rattle.checked.specs.Checked.{Checked}
 use Rattle.span.specs.Span.{span_of, in_domain, IsSpan}
 use Rattle.span.proofs.SpanLaws.{span_of-is, span-holds, in_domain-says}
