@@ -35,7 +35,7 @@ high c =
     highs-front a.degree a.knots.now a.xs.now a.ys.now a.clamp a.radius (length a.lows.now) (length a.highs.now) c.before.count.given.0.0 a.highs.now c.before.before.before.before.before.before.before.list-spans-met.new.1.1.1.1.1.1.1.0 (counts c) (ap (λ (s : SpanLists). s.highs) c.before.before.before.before.before.before.before.list-spans-met.ensures.1)
 
 slice-reshare-prefix-put-listed : tie.Need-slice-reshare-prefix-put-listed
-slice-reshare-prefix-put-listed c = (low c).ranges
+slice-reshare-prefix-put-listed c = (low c).fits
 
 slice-aggregate-put-listed : tie.Need-slice-aggregate-put-listed
 slice-aggregate-put-listed c = sym (length-take-le c.before.before.count.given.0.0 c.before.before.before.before.before.before.before.before.list-spans-met.new.1.1.1.1.1.1.0 (low c.before).fits)
@@ -52,8 +52,8 @@ put-listed-requires c κs =
     let start = c.before.before.before.before.before.before.before.before.before.before.before.before.before.before.before.before.before in
     let n = c.before.before.before.before.count.given.0.0 in (
       start.requires.0,
-      length-take-le n c.before.before.before.before.before.before.before.before.before.before.list-spans-met.new.1.1.1.1.1.1.1.0 (high told).ranges ∙ sym (length-take-le n c.before.before.before.before.before.before.before.before.before.before.list-spans-met.new.1.1.1.1.1.1.0 (low told).ranges),
-      omega (arith, length-take-le n c.before.before.before.before.before.before.before.before.before.before.list-spans-met.new.1.1.1.1.1.1.0 (low told).ranges, (counts told).few),
+      length-take-le n c.before.before.before.before.before.before.before.before.before.before.list-spans-met.new.1.1.1.1.1.1.1.0 (high told).fits ∙ sym (length-take-le n c.before.before.before.before.before.before.before.before.before.before.list-spans-met.new.1.1.1.1.1.1.0 (low told).fits),
+      omega (arith, length-take-le n c.before.before.before.before.before.before.before.before.before.before.list-spans-met.new.1.1.1.1.1.1.0 (low told).fits, (counts told).few),
       start.requires.3,
     )
 
