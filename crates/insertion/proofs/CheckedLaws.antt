@@ -1,5 +1,5 @@
 -- What the check says to an insertion: the knots never fall, and the coordinates are on the grid.
-use mathlib.Core.Bool.{true, ◌&&◌}
+use mathlib.Core.Bool.{true}
 use mathlib.Core.List.{List, [], ◌∷◌}
 use mathlib.Core.Path.{◌≡◌, refl}
 use Prim.Native.Nat.{ℕ, zero, suc, ◌+◌, ◌-◌, ◌≤◌, ◌<◌}
@@ -13,7 +13,7 @@ use borrow.Author.Tests.{lt-ltb, ltb-true}
 use Rattle.refusal.proofs.JudgingLaws.{both}
 use Rattle.signed.proofs.BoundLaws.{size-of-bounds, low-of-size, high-of-size}
 use Rattle.grid.specs.Limits.{coordinate_most}
-use Rattle.grid.specs.Rows.{rises_from, knot_order_ok, on_grid, all_on_grid, range_ok, occurrences}
+use Rattle.grid.specs.Rows.{knot_order_ok, on_grid, all_on_grid, range_ok, occurrences}
 use Rattle.grid.specs.Check.{Passes}
 use Rattle.grid.proofs.RepeatLaws.{rises-above, rises-drop}
 use Rattle.grid.proofs.CheckLaws.{passes-tests}

@@ -9,10 +9,9 @@ use lib.Signed.{mag, quot_z, rem_z}
 use mir.Syntax.{Width, w32, w64}
 use mir.Val.{SFits, of_z}
 use mir.ValLaws.{sfits_le}
-use borrow.Author.Tests.{le-ltb, ne_eqb}
+use borrow.Author.Tests.{ne_eqb}
 use Rattle.signed.proofs.SizeLaws.{nat_abs_mul, nat_abs-add, nat_abs-quot}
 use Rattle.signed.proofs.FitLaws.{fits64-of-size, product-size}
-use Rattle.signed.proofs.DivisionLaws.{quot-of-product}
 
 -- a summand moves to the other side
 pub sum-moves : (a b c : ℤ) → a +ℤ b ≡ c → a ≡ c -ℤ b

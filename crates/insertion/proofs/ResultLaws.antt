@@ -2,14 +2,14 @@
 use mathlib.Core.Bool.{true}
 use mathlib.Core.List.{List, [], ◌∷◌}
 use mathlib.Core.Path.{◌≡◌, sym, ◌∙◌}
-use Prim.Native.Nat.{ℕ, zero, suc, ◌+◌, ◌-◌, ◌≤◌, ◌<◌}
+use Prim.Native.Nat.{ℕ, zero, suc, ◌+◌, ◌-◌, ◌≤◌}
 use native.Mathlib.Omega.{arith}
 use lib.IntN.{ℤ, pos, nat_abs}
 use lib.ListN.{length, get_or, get_or-eq_default}
 use borrow.Author.Tests.{le-leb, eq-eqb, ltb-true}
 use Rattle.curve.specs.Lists.{Lists, lists}
 use Rattle.grid.specs.Limits.{points_most, knot_most, coordinate_most}
-use Rattle.grid.specs.Rows.{rises_from, degree_ok, point_count_ok, knot_count_ok, knot_order_ok, all_on_grid, range_ok}
+use Rattle.grid.specs.Rows.{rises_from, degree_ok, point_count_ok, knot_count_ok, knot_order_ok, range_ok}
 use Rattle.grid.specs.Check.{Passes}
 use Rattle.grid.proofs.CheckLaws.{passes-tests, check-accepts}
 use Rattle.grid.proofs.RepeatLaws.{rises-cons}

@@ -1,9 +1,8 @@
 -- The new curve at every index, and each row of refusal as its sentence: the tests of an insertion fail exactly where these hold.
-use mathlib.Core.Bool.{true, false, ◌&&◌, true≢false}
+use mathlib.Core.Bool.{true, false, true≢false}
 use mathlib.Core.List.{List}
-use mathlib.Core.Logic.{◌⊎◌, inl, inr, ⊎_elim}
 use mathlib.Core.Path.{◌≡◌, refl, sym, ap, ◌∙◌}
-use Prim.Native.Nat.{ℕ, zero, suc, ◌+◌, ◌-◌, ◌≤◌, ◌<◌}
+use Prim.Native.Nat.{ℕ, ◌+◌, ◌-◌, ◌≤◌, ◌<◌}
 use native.Mathlib.Numerals.{add-one}
 use native.Mathlib.Omega.{arith}
 use lib.IntN.{ℤ, pos, ◌*ℤ◌}
@@ -11,15 +10,15 @@ use lib.ListN.{length, get_or}
 use lib.Signed.{quot_z}
 use Rattle.refusal.proofs.JudgingLaws.{both}
 use Rattle.refusal.proofs.ChainLaws.{accepts, judged, answers-first}
-use Rattle.curve.specs.Lists.{Lists, lists}
+use Rattle.curve.specs.Lists.{Lists}
 use Rattle.grid.specs.Check.{Passes}
 use Rattle.grid.specs.Rows.{occurrences}
 use Rattle.signed.specs.Division.{divides}
 use Rattle.signed.proofs.DivisionLaws.{product-divides, product-of-quot}
 use Rattle.span.specs.Span.{strictly_inside}
-use Rattle.checked.proofs.TestLaws.{Judged, fails-iff, one-fails, ltb-judged, both-judged, three-judged, room-judged}
+use Rattle.checked.proofs.TestLaws.{Judged, fails-iff, ltb-judged, both-judged, three-judged, room-judged}
 use Rattle.checked.proofs.SentenceLaws.{curve-judged}
-use Rattle.insertion.specs.Insertion.{knots_up_to, insertion_span, inserted_knots, inserted_points, weighted_sum, weight, whole_from, whole_points, inserted}
+use Rattle.insertion.specs.Insertion.{knots_up_to, insertion_span, inserted_knots, inserted_points, weighted_sum, weight, whole_points, inserted}
 use Rattle.insertion.specs.Standing.{Insertable}
 use Rattle.insertion.specs.Judged.{value_ok, place_ok, whole_ok, insertable_then, insertion_number}
 use Rattle.insertion.specs.Sentences.{Between, Quotient, NewPoints, NewKnots, InsertedByIndex, ValueWrong, Full, NotWholeOn, NotWhole, insertion_rows, InsertionAnswersFirst}
@@ -28,8 +27,8 @@ use Rattle.insertion.proofs.KnotLaws.{inserted_knots-length, inserted_knots-befo
 use Rattle.insertion.proofs.PointLaws.{inserted_points-length, inserted_points-at, point-left, point-quotient, point-right}
 use Rattle.insertion.proofs.QuotientLaws.{weight-natural}
 use Rattle.insertion.proofs.WholeLaws.{whole_each, whole-not}
-use Rattle.insertion.proofs.CheckedLaws.{value-of-test, insertable-xs, insertable-ys}
-use Rattle.insertion.proofs.JudgedLaws.{Accepted, accepted-of-number}
+use Rattle.insertion.proofs.CheckedLaws.{insertable-xs, insertable-ys}
+use Rattle.insertion.proofs.JudgedLaws.{accepted-of-number}
 
 module _ (m : ℕ) (ts : List ℕ) (ps : List ℤ) (v : ℕ) (s : Insertable m ts ps v) where
   -- the span is such an i
