@@ -8,7 +8,7 @@ ghost use Rattle.boxes.specs.Meeting.{meets_on_axis};
 ghost use Rattle.boxes.specs.Widening.{widened};
 
 // A rectangle with closed sides.
-#[derive(Drop)]
+#[derive(Clone, Copy)]
 pub struct Rectangle {
     pub low_x: i32,
     pub high_x: i32,

@@ -6,7 +6,7 @@ ghost use Rattle.domain.specs.Parameter.{parameter_number};
 ghost use Rattle.span.specs.Span.{carrying_of};
 ghost use Rattle.carrying.specs.Carrying.{part_of};
 
-#[derive(Drop)]
+#[derive(Clone, Copy)]
 pub enum Axis {
     X,
     Y,

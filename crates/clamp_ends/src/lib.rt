@@ -11,7 +11,7 @@ ghost use Rattle.clamp_ends.specs.Answer.{ClampOutcome};
 pub use carrying::clamp_checked;
 
 // The number of points after clamping, or why it is refused.
-#[derive(Drop)]
+#[derive(Clone, Copy)]
 pub enum ClampAnswer {
     Clamped(usize),
     Refused(u32),

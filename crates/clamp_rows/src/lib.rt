@@ -13,7 +13,7 @@ ghost use Rattle.clamp_rows.specs.Near.{Small, Sized, as_end, Near};
 pub use gathering::{finish_of, start_of};
 
 // What is read of an end: how far the first two knots inside and outside lie from the end of the domain, and the first three points.
-#[derive(Drop)]
+#[derive(Clone, Copy)]
 pub struct NearEnd {
     pub inside: [u64; 2],
     pub outside: [u64; 2],

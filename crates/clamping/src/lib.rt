@@ -2,7 +2,7 @@
 #![tactic(auto)]
 
 // The number upper / lower.
-#[derive(Drop)]
+#[derive(Clone, Copy)]
 pub struct Share {
     pub upper: i64,
     pub lower: u64,

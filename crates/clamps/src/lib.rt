@@ -20,7 +20,7 @@ const SIDE_BYTES: usize = 4;
 const CLAMP_FIELD_BYTES: usize = grid::HEAD_BYTES + grid::CLAMP_BYTES;
 
 // How many clamps there are, or the leftmost fault.
-#[derive(Drop)]
+#[derive(Clone, Copy)]
 pub enum Tail {
     Clamps(usize),
     Broken(Break),

@@ -9,7 +9,7 @@ ghost use Rattle.compact.specs.Outcome.{CompactOutcome};
 ghost use Rattle.compact.specs.Sizes.{answer_of};
 
 // The number of knots that were removed, or why the call is refused.
-#[derive(Drop)]
+#[derive(Clone, Copy)]
 pub enum CompactAnswer {
     Compacted(usize),
     Refused(u32),

@@ -9,14 +9,14 @@ ghost use Rattle.signed.specs.Division.{divides};
 ghost use Rattle.cut_rows.specs.Row.{mean_sum, sum_at, width_at, RowStands, MeanOf, NextOf, Pushed};
 
 // A mean of two coordinates: what it is, toward zero, and whether it is just that.
-#[derive(Drop)]
+#[derive(Clone, Copy)]
 pub struct Mean {
     pub whole: bool,
     pub value: i32,
 }
 
 // A row with one insertion more, and whether every point that is new in it is whole.
-#[derive(Drop)]
+#[derive(Clone, Copy)]
 pub struct Next {
     pub whole: bool,
     pub row: [i32; 4],

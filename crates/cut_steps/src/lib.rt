@@ -7,21 +7,21 @@ ghost use Rattle.cut_rows.specs.Row.{RowStands};
 ghost use Rattle.cut_steps.specs.Step.{AxisOutcome, CutStands, Possible, Steps, Fills};
 
 // One axis: the row of points that carry the span, and the points behind them.
-#[derive(Drop)]
+#[derive(Clone, Copy)]
 pub struct Axis {
     pub row: [i32; 4],
     pub behind: [i32; 4],
 }
 
 // One axis after an insertion, and whether its new points are whole.
-#[derive(Drop)]
+#[derive(Clone, Copy)]
 pub struct Stepped {
     pub whole: bool,
     pub axis: Axis,
 }
 
 // A span on its way: 0 or the number of the insertion that failed, the points of the whole curve so far, and both axes.
-#[derive(Drop)]
+#[derive(Clone, Copy)]
 pub struct Cut {
     pub number: u32,
     pub points: usize,

@@ -10,20 +10,20 @@ ghost use Rattle.feed.specs.Ending.{ReadsHeld, FeedEnds};
 use job::{JobAnswer, Judged};
 
 // What is kept between the calls beside the work list: how many bytes were received, 0 before the first burst.
-#[derive(Drop)]
+#[derive(Clone, Copy)]
 pub struct Feed {
     pub received: usize,
 }
 
 // The state after a burst; or the number of refusal, and then the state is what it was.
-#[derive(Drop)]
+#[derive(Clone, Copy)]
 pub enum BurstAnswer {
     Fed(Feed),
     Refused(u32),
 }
 
 // What reading the job answers, and the state for whatever comes next.
-#[derive(Drop)]
+#[derive(Clone, Copy)]
 pub struct EndAnswer {
     pub answer: JobAnswer,
     pub state: Feed,

@@ -9,7 +9,7 @@ ghost use Rattle.curve.specs.Lists.{lists};
 ghost use Rattle.insert_knot.specs.Answer.{InsertOutcome};
 
 // The number of points after the insertion, or why it is refused.
-#[derive(Drop)]
+#[derive(Clone, Copy)]
 pub enum InsertAnswer {
     Inserted(usize),
     Refused(u32),

@@ -14,7 +14,7 @@ use layout::Layout;
 use taken_field::{Break, Taken};
 
 // The lengths of a job's fields of knots, x and y, and the number of its clamps. Or why there is no job.
-#[derive(Drop)]
+#[derive(Clone, Copy)]
 pub enum JobLayout {
     Sound {
         knots: usize,
@@ -26,7 +26,7 @@ pub enum JobLayout {
 }
 
 // A job, or where the bytes break.
-#[derive(Drop)]
+#[derive(Clone, Copy)]
 pub enum Judged {
     Sound,
     Broken(Break),
@@ -34,7 +34,7 @@ pub enum Judged {
 
 // Degree, number of points, radius and number of clamps of a job that was read. Or where the bytes break, with the number of refusal and the place; or
 // the number alone.
-#[derive(Drop)]
+#[derive(Clone, Copy)]
 pub enum JobAnswer {
     Job {
         degree: u32,

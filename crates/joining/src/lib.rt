@@ -11,7 +11,7 @@ ghost use Rattle.joining.specs.SplinePoints.{spline_points};
 ghost use Rattle.joining.specs.Answer.{joinable_then, JoinOutcome};
 
 // How many points the joined curve has, or the number of refusal.
-#[derive(Drop)]
+#[derive(Clone, Copy)]
 pub enum JoinAnswer {
     Joined(usize),
     Refused(u32),

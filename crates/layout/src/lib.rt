@@ -8,7 +8,7 @@ ghost use Rattle.layout.specs.Judging.{from_x, record_layout, whole_record};
 use taken_field::{Break, Rule, Taken};
 
 // The lengths of a record's fields of knots, x and y. Or why there is no record.
-#[derive(Drop)]
+#[derive(Clone, Copy)]
 pub enum Layout {
     Sound { knots: usize, xs: usize, ys: usize },
     Broken(Break),

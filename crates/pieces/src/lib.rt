@@ -15,7 +15,7 @@ ghost use Rattle.pieces.specs.Walk.{AtSpan, Hands};
 use cutting::Piece;
 
 // Where a walk stands: the number of pieces behind it, the index of the span's low knot, the points of the whole curve so far, and those that carry the span.
-#[derive(Drop)]
+#[derive(Clone, Copy)]
 pub struct Walk {
     pub index: usize,
     pub span: usize,
@@ -25,7 +25,7 @@ pub struct Walk {
 }
 
 // What a step hands out: 0 or the number of the insertion that failed, the piece, and the walk behind it.
-#[derive(Drop)]
+#[derive(Clone, Copy)]
 pub struct Handed {
     pub number: u32,
     pub piece: Piece,

@@ -5,13 +5,13 @@ ghost use Rattle.std.specs.Prelude.{◌≡◌};
 ghost use Rattle.point_at.specs.Point.{answer_of};
 
 // A point of the plane.
-#[derive(Drop)]
+#[derive(Clone, Copy)]
 pub struct Place {
     pub x: f64,
     pub y: f64,
 }
 
-#[derive(Drop)]
+#[derive(Clone, Copy)]
 pub enum PointAnswer {
     At(Place),
     Refused(u32),

@@ -13,14 +13,14 @@ ghost use Rattle.record.specs.Writing.{write_number, write_answer};
 use layout::Layout;
 
 // How many bytes a record has, or why there is none.
-#[derive(Drop)]
+#[derive(Clone, Copy)]
 pub enum WriteAnswer {
     Written(usize),
     Refused(u32),
 }
 
 // Degree and number of points of a curve that was read. Or where the bytes break, with the number of refusal and the place; or the number alone.
-#[derive(Drop)]
+#[derive(Clone, Copy)]
 pub enum ReadAnswer {
     Curve { degree: u32, points: usize },
     Broken { number: u32, place: usize },

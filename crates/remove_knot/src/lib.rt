@@ -11,7 +11,7 @@ ghost use Rattle.remove_knot.specs.declared.RemoveAnswer.TheVariants.{Removed, R
 ghost use Rattle.remove_knot.specs.Outcome.{RemovalOutcome};
 
 // The number of points after the removal, or why it is refused.
-#[derive(Drop)]
+#[derive(Clone, Copy)]
 pub enum RemoveAnswer {
     Removed(usize),
     Refused(u32),

@@ -9,7 +9,7 @@ ghost use Rattle.spans_met.specs.Answer.{list_answer, listed};
 pub use boxes::Rectangle;
 
 // How many spans were listed, or the number of refusal.
-#[derive(Drop)]
+#[derive(Clone, Copy)]
 pub enum SpansAnswer {
     Listed(usize),
     Refused(u32),

@@ -15,14 +15,14 @@ ghost use Rattle.svg_out.specs.Svg.{SvgOutcome};
 ghost use Rattle.svg_out.specs.Measure.{PiecesOutcome};
 
 // The number of bytes written, or why nothing is.
-#[derive(Drop)]
+#[derive(Clone, Copy)]
 pub enum SvgAnswer {
     Written(usize),
     Refused(u32),
 }
 
 // What measuring answers: 0 and the number of bytes, or the number of the refusal.
-#[derive(Drop)]
+#[derive(Clone, Copy)]
 pub struct Measured {
     pub number: u32,
     pub length: usize,

@@ -5,7 +5,7 @@ ghost use Rattle.std.specs.Prelude.{◌≡◌};
 ghost use Rattle.taken_field.specs.Taking.{length_ok, field_at};
 
 // What a field must be: its tag, its least and largest length, and the width of an entry.
-#[derive(Drop)]
+#[derive(Clone, Copy)]
 pub struct Rule {
     pub tag: u8,
     pub least: usize,
@@ -14,14 +14,14 @@ pub struct Rule {
 }
 
 // Where bytes break: the number of refusal and the place. The place is the input's length, a tag's, that of a length's first byte, or of a byte left over.
-#[derive(Drop)]
+#[derive(Clone, Copy)]
 pub struct Break {
     pub number: u32,
     pub place: usize,
 }
 
 // A field that was taken: the length of its contents. Or why there is none.
-#[derive(Drop)]
+#[derive(Clone, Copy)]
 pub enum Taken {
     Field(usize),
     Broken(Break),

@@ -9,7 +9,7 @@ ghost use Rattle.curve.specs.Lists.{lists};
 ghost use Rattle.unclamp_right.specs.Answer.{UnclampOutcome};
 
 // The number of points, which unclamping keeps, or why it is refused.
-#[derive(Drop)]
+#[derive(Clone, Copy)]
 pub enum UnclampAnswer {
     Unclamped(usize),
     Refused(u32),

@@ -8,7 +8,7 @@ ghost use Rattle.value_removal.specs.Work.{front_curve, Holding};
 ghost use Rattle.work_lists.specs.Outcome.{FrontOutcome, WorkOutcome};
 
 // The number of knots that a pass took, or why what it left is not handed over.
-#[derive(Drop)]
+#[derive(Clone, Copy)]
 pub enum PassAnswer {
     Took(usize),
     Refused(u32),
