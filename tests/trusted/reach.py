@@ -6,7 +6,7 @@ from .source import CRATES, WORD, contracts, declaration, definitions, imports
 
 PROMISES = "promises/specs/Promises.antt"
 CALLS = ("grid", "point_at", "carrying", "insert_knot", "remove_knot", "compact", "joining", "spans_met", "record", "job", "feed", "svg_out", "clamp_ends", "unclamp_right")
-DOOR = "tsaghnobir"
+DOOR = "tsaghnobir_c"
 PUBLIC = {"grid": {"check"}}  # of this crate the other functions are parts
 
 

@@ -7,13 +7,13 @@ import re
 TOP = pathlib.Path(__file__).resolve().parents[2]
 CRATES = TOP / "crates"
 DEFINED = re.compile(r"^(?:(?:unfoldable|abbrev|pub) )+(?:(?:record|data) )?([^\s:({]+)")
-USE = re.compile(r"^(?:ghost )?use (Rattle·\S+?)(?:\.\{(.*?)\}| as (\S+?))?;?$", re.M)
+USE = re.compile(r"^(?:ghost )?use (Rattle\.\S+?)(?:\.\{(.*?)\}| as (\S+?))?;?$", re.M)
 WORD = re.compile(r"[^\s(){};,.\"]+")
 
 
 def place_of(module):
     """The file that a module's name means, below crates/; or, of a declared type, the crate's sources and the type."""
-    crate, *parts = module.removeprefix("Rattle·").split(".")
+    crate, *parts = module.removeprefix("Rattle.").split(".")
     crate = crate.removesuffix("·specs")
     parts = [part for part in parts if part != "specs"]
     if parts[:1] == ["declared"]:
