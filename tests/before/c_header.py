@@ -1,4 +1,4 @@
-"""Holds include/tsaghnobir.h against the library: every export with its parameters in order, name and type; every refusal number and every limit by its name."""
+"""Holds include/tsaghnobir.h against the library: every export of crates/tsaghnobir_c with its parameters in order, name and type; every refusal number and every limit by its name."""
 import pathlib
 import re
 import sys
@@ -20,8 +20,8 @@ def parameter_of_export(text):
 
 def exports():
     found = {}
-    for source in sorted((root / "crates/tsaghnobir/src").glob("*.rt")):
-        for name, inside in re.findall(r'#\[no_mangle\]\npub extern "C" fn (\w+)\((.*?)\) -> u32', source.read_text(), re.S):
+    for source in sorted((root / "crates/tsaghnobir_c/src").glob("*.rt")):
+        for name, inside in re.findall(r'#\[unsafe\(no_mangle\)\]\npub extern "C" fn (\w+)\((.*?)\) -> u32', source.read_text(), re.S):
             parts = [part.strip() for part in inside.split(",") if part.strip()]
             found[name] = [one for part in parts for one in parameter_of_export(part)]
     return found

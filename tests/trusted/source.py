@@ -65,9 +65,9 @@ def definitions(path):
 
 
 def declaration(folder, name):
-    """The lines of a struct or an enum that a crate's source declares."""
+    """The lines of a struct or an enum that a crate's source declares, with what stands over it."""
     for path in sorted((CRATES / folder).rglob("*.rt")):
-        shown = re.search(rf"((?:^// .*\n)*)^pub (?:struct|enum) {name} \{{\n(.*\n)*?^\}}", path.read_text(), re.M)
+        shown = re.search(rf"(?:^// .*\n)*(?:^#\[.*\]\n)*^pub (?:struct|enum) {name} \{{\n(.*\n)*?^\}}", path.read_text(), re.M)
         if shown:
             return shown[0].splitlines()
     return []
