@@ -3,8 +3,9 @@
  *
  * Every function here is an export of a proved library: for any numbers and any contents of the lists it
  * ends, does nothing undefined, and gives exactly the answer that its definition in the repository says.
- * Link with libtsaghnobir.a (x86-64 Linux). No function allocates, keeps anything, prints or calls back,
- * so any number of threads may call them at once.
+ * Link with libtsaghnobir.a (x86-64 Linux). It is compiled for processors of the level x86-64-v2 and newer, which have
+ * SSE4.2, and does not ask whether the one that it runs on is such. No function allocates, keeps anything, prints or calls
+ * back, so any number of threads may call them at once.
  *
  * A CURVE is four things, handed over in this order by every call that takes one:
  *
