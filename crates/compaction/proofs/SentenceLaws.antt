@@ -9,7 +9,6 @@ use Rattle.removal.specs.Removal.{Removes}
 use Rattle.removal.proofs.SentenceLaws.{removal-takes-one}
 use Rattle.compaction.specs.Compaction.{Stays, RemovesWhile, stays, goes_on, Pass, done, next, CompactsTo}
 use Rattle.compaction.specs.Sentences.{Leaves, PassLeaves, TurnEnds, NoRoomLeft, compaction_rows, CompactionAnswersFirst}
-use Rattle.refusal.specs.Judging.{answered}
 use Rattle.refusal.proofs.ChainLaws.{Judges, accepts, judged, answers-first}
 use Rattle.curve.specs.HandingOver.{room_number}
 use Rattle.grid.specs.Check.{check_number}
