@@ -1,16 +1,16 @@
 -- The lists that inserting a knot gives are the knots and points of the theory, over the rational numbers, place by place.
 use mathlib.Core.Bool.{true, and-eq-true_iff}
 use mathlib.Core.List.{List}
-use mathlib.Core.Path.{◌≡◌, refl, sym, ap, ap₂, ◌∙◌, fun_ext}
+use mathlib.Core.Path.{◌≡◌, sym, ap, ap₂, ◌∙◌, fun_ext}
 use Prim.Native.Nat.{ℕ, zero, suc, ◌+◌, ◌-◌, ◌≤◌, ◌<◌}
 use native.Mathlib.Nat.{add-zero}
 use native.Mathlib.Decide.{dec_le}
 use native.Mathlib.Omega.{arith}
 use borrow.Author.Tests.{le-leb, lt-leb}
-use lib.IntN.{ℤ, pos, ◌+ℤ◌, ◌-ℤ◌, ◌*ℤ◌}
+use lib.IntN.{ℤ, pos, ◌-ℤ◌, ◌*ℤ◌}
 use lib.ListN.{length, get_or}
 use lib.Signed.{quot_z}
-use Rattle.algebra.specs.Operations.{sub, div}
+use Rattle.algebra.specs.Operations.{sub}
 use Rattle.algebra.proofs.FieldLaws.{div-unique}
 use Rattle.algebra.proofs.OrderLaws.{apart-of-positive}
 use Rattle.signed.specs.Division.{divides}

@@ -1,7 +1,7 @@
 -- Inserting a knot keeps the exact curve on one axis, and so on both.
 use mathlib.Core.Bool.{true, and-eq-true_iff}
 use mathlib.Core.List.{List}
-use mathlib.Core.Path.{◌≡◌, refl, sym, ap, subst, ◌∙◌}
+use mathlib.Core.Path.{◌≡◌, sym, ap, subst, ◌∙◌}
 use Prim.Native.Nat.{ℕ, zero, suc, ◌+◌, ◌-◌, ◌≤◌, ◌<◌}
 use native.Mathlib.Omega.{arith}
 use lib.IntN.{ℤ}
@@ -20,15 +20,15 @@ use Rattle.span.proofs.SpanLaws.{span_of-is, in_domain-says}
 use Rattle.exact.specs.ExactPoint.{exact_coordinate}
 use Rattle.exact.proofs.ExactLaws.{rational_knot, rational_coordinate, rational_parameter, exact-class}
 use Rattle.exact.proofs.SpanLaws.{knots-rising}
-use Rattle.insertion.specs.Insertion.{knots_up_to, insertion_span, inserted_knots, inserted_points, whole_points}
+use Rattle.insertion.specs.Insertion.{insertion_span, inserted_knots, inserted_points, whole_points}
 use Rattle.insertion.specs.Judged.{whole_ok}
 use Rattle.insertion.specs.Standing.{Insertable}
 use Rattle.insertion.proofs.KnotLaws.{inserted_knots-before, inserted_knots-behind}
 use Rattle.insertion.proofs.PointLaws.{inserted_points-length}
 use Rattle.insertion.proofs.SpanLaws.{up_to-least, up_to-most, span-least, span-most, span-low, span-high}
 use Rattle.insertion.proofs.CheckedLaws.{value-of-test, insertable-xs, insertable-ys}
-use Rattle.insertion.proofs.JudgedLaws.{Accepted, accepted-of-number}
-use Rattle.knots_exact.specs.SameCurve.{SameOnAxis, SameCurve, InsertKeepsCurve}
+use Rattle.insertion.proofs.JudgedLaws.{accepted-of-number}
+use Rattle.knots_exact.specs.SameCurve.{SameOnAxis, InsertKeepsCurve}
 use Rattle.knots_exact.proofs.SpanRuleLaws.{rule-of-span}
 use Rattle.knots_exact.proofs.InsertedLaws.{knots-inserted, points-inserted}
 

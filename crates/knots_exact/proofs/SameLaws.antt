@@ -1,5 +1,5 @@
 -- Being the same exact curve goes both ways and goes on from curve to curve, for curves that have points.
-use mathlib.Core.Bool.{Bool, true, ◌&&◌}
+use mathlib.Core.Bool.{◌&&◌}
 use mathlib.Core.List.{List}
 use mathlib.Core.Path.{◌≡◌, sym, ap₂, ◌∙◌}
 use Prim.Native.Nat.{ℕ, ◌+◌, ◌-◌, ◌*◌, ◌<◌}
@@ -7,11 +7,10 @@ use native.Mathlib.Omega.{arith}
 use lib.Dec.{leb}
 use lib.IntN.{ℤ}
 use lib.ListN.{length, get_or}
-use Rattle.fractions.specs.Order.{Equals}
-use Rattle.fractions.proofs.Rational.{class, class-of-equals, equals-of-class}
+use Rattle.fractions.proofs.Rational.{class-of-equals, equals-of-class}
 use Rattle.exact.specs.ExactCurve.{exact_at}
 use Rattle.span.specs.Span.{in_domain}
-use Rattle.knots_exact.specs.SameCurve.{SameOnAxis, SameCurve}
+use Rattle.knots_exact.specs.SameCurve.{SameOnAxis}
 
 -- the domain of a curve with points, by its two ends
 domain-ends : (m : ℕ) (ts : List ℕ) (ps : List ℤ) (p q : ℕ) → 0 < length ps → in_domain ts m (length ps - 1) p q ≡ (leb (get_or ts m 0 * q) p && leb p (get_or ts (length ps) 0 * q))
