@@ -1,0 +1,92 @@
+-- The points in front are copied, the quotients are stored one by one (the invariant), and the points behind are copied.
+use mathlib.Core.Path.{◌≡◌, sym, ◌∙◌}
+use Prim.Native.Nat.{◌+◌, ◌-◌, ◌<◌}
+use native.Mathlib.Omega.{arith}
+use lib.IntN.{pos}
+use lib.ListN.{length, take, drop}
+use lib.Seq.{length-take-le}
+use mir.Syntax.{w32}
+use mir.ValLaws.{to_z-of_z}
+use Rattle.insertion.specs.Insertion.{insertion_span, inserted_points}
+use Rattle.lent.proofs.StoreLaws.{Stored, stored_more, stored-length}
+use Rattle.insertion.proofs.PartLaws.{stored-anew, stored-since, rest-copied}
+use Rattle.insertion.proofs.SpanLaws.{span-least, span-most, span-weighed}
+use Rattle.insertion.proofs.PointLaws.{inserted_points-length, inserted_points-at, point-quotient, points-stored, points-rest}
+use Rattle.insertion_parts.proofs.insert_points.Goals.{After-loop-j, After-out-1, Start}
+use Rattle.insertion_parts.proofs.insert_points.Goals as goal
+
+-- the span is the place of a point
+within : (s : Start) → s.args.i < length s.args.ps.now
+within s =
+    let a = s.args in
+    omega (arith, span-most a.m a.knots.now a.ps.now a.v s.requires.insertable, s.requires.i_value)
+
+pub overflow_add-front : goal.overflow_add-front
+overflow_add-front c = omega (arith, within (goal.at.overflow_add-front c).Start)
+
+pub overflow_sub-front : goal.overflow_sub-front
+overflow_sub-front c = let a = c.args in
+    omega (arith, span-least a.m a.knots.now a.ps.now a.v c.requires.insertable)
+
+pub slice_bounds-copy_coordinates-end : goal.slice_bounds-copy_coordinates-end
+slice_bounds-copy_coordinates-end c = let a = c.args in
+    sym (length-take-le (a.i + 1 - a.m) a.ps.now (omega (arith, within (goal.at.slice_bounds-copy_coordinates-end c).Start, c.requires.insertable.degree)))
+
+-- the points in front are stored
+front-stored : (c : After-out-1) → Stored (inserted_points c.args.m c.args.knots.now c.args.ps.now c.args.v) c.args.out.now c.copy_coordinates.new.to (c.args.i + 1 - c.args.m)
+front-stored c =
+    let a = c.args in
+    points-stored a.m a.knots.now a.ps.now a.v a.i c.requires.insertable c.requires.i_value a.out.now c.copy_coordinates.new.to c.requires.ps_in_bounds c.copy_coordinates.ensures.result
+
+pub loop-j-init : goal.loop-j-init
+loop-j-init c = (omega arith, omega (arith, c.requires.insertable.degree), stored-anew (front-stored c))
+
+pub quotient_at-requires : goal.quotient_at-requires
+quotient_at-requires c =
+    let a = c.args in record {
+      insertable = c.requires.insertable;
+      weighed = span-weighed a.m a.knots.now a.ps.now a.v c.requires.insertable c.loop-j.j
+          (omega (arith, c.loop-j.invariant.0, c.requires.i_value)) (omega (arith, c.loop-j-test.true, c.requires.i_value));
+    }
+
+pub bounds-out-j : goal.bounds-out-j
+bounds-out-j c = let a = c.args in
+    let l = c.loop-j in omega (arith, c.loop-j-test.true, within (goal.at.bounds-out-j c).Start, inserted_points-length a.m a.knots.now a.ps.now a.v, stored-length l.invariant.2, l.invariant.2.room)
+
+pub loop-j-preserved : goal.loop-j-preserved
+loop-j-preserved c = let a = c.args in
+    let l = c.loop-j in let most = within (goal.at.loop-j-preserved c).Start in (
+      omega (arith, l.invariant.0),
+      omega (arith, c.loop-j-test.true),
+      rw (to_z-of_z w32 c.quotient_at.result (record { sfits = c.quotient_at.type_inv }))
+          (stored_more l.invariant.2 c.quotient_at.result (pos 0)
+          (omega (arith, c.loop-j-test.true, most, inserted_points-length a.m a.knots.now a.ps.now a.v))
+          (inserted_points-at a.m a.knots.now a.ps.now a.v l.j (omega (arith, c.loop-j-test.true, most))
+          ∙ point-quotient a.m a.knots.now a.ps.now a.v (insertion_span a.knots.now a.v) l.j
+          (omega (arith, l.invariant.0, c.requires.i_value)) (omega (arith, c.loop-j-test.true, c.requires.i_value))
+          ∙ sym c.quotient_at.ensures.answer)),
+    )
+
+-- the points in front and the quotients are stored
+quotients-stored : (c : After-loop-j) → Stored (inserted_points c.args.m c.args.knots.now c.args.ps.now c.args.v) c.args.out.now c.loop-j.out (c.args.i + 1)
+quotients-stored c =
+    let front-stored : Stored (inserted_points c.args.m c.args.knots.now c.args.ps.now c.args.v) c.args.out.now c.copy_coordinates.new.to (c.args.i + 1 - c.args.m) = let a = c.args in
+    points-stored a.m a.knots.now a.ps.now a.v a.i c.requires.insertable c.requires.i_value a.out.now c.copy_coordinates.new.to c.requires.ps_in_bounds c.copy_coordinates.ensures.result in
+    let l = c.loop-j in let ends : l.j ≡ c.args.i + 1 = omega (arith, l.invariant.1, c.loop-j-test.false) in
+    rw ends at (stored-since front-stored l.invariant.0 l.invariant.2)
+
+pub slice_bounds-copy_coordinates-count : goal.slice_bounds-copy_coordinates-count
+slice_bounds-copy_coordinates-count c = omega (arith, within (goal.at.slice_bounds-copy_coordinates-count c).Start)
+
+pub slice_bounds-copy_coordinates-start : goal.slice_bounds-copy_coordinates-start
+slice_bounds-copy_coordinates-start c = omega (arith, within (goal.at.slice_bounds-copy_coordinates-start c).Start)
+
+pub returns : goal.returns
+returns c = record {
+  result = let a = c.args in
+      rest-copied (inserted_points a.m a.knots.now a.ps.now a.v) a.out.now (take (length a.ps.now - (a.i + 1 - 1)) (drop (a.i + 1 - 1) a.ps.now))
+      c.loop-j.out c.copy_coordinates-2.new.to (a.i + 1)
+      (quotients-stored (goal.at.returns c).After-loop-j)
+      (points-rest a.m a.knots.now a.ps.now a.v a.i c.requires.insertable c.requires.i_value (a.i + 1) (omega arith))
+      c.copy_coordinates-2.ensures.result;
+}
