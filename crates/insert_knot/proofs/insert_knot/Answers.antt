@@ -1,0 +1,12 @@
+-- The check first, then the rest: the number is the one of what comes first.
+use mathlib.Core.Path.{◌∙◌}
+use Rattle.curve.specs.Lists.{lists}
+use Rattle.insertion.proofs.JudgedLaws.{number-refused}
+use Rattle.insert_knot.proofs.AnswerLaws.{outcome-refused}
+use Rattle.insert_knot.proofs.insert_knot.Goals as goal
+
+pub returns-then-number-ne-ACCEPTED : goal.returns-then-number-ne-ACCEPTED
+returns-then-number-ne-ACCEPTED c = record {
+  answer = let a = c.args in
+      let k = c.check-number in outcome-refused a.degree (lists a.knots.now a.xs.now a.ys.now) a.v (lists a.out_knots.now a.out_xs.now a.out_ys.now) k.result (k.ensures.answer ∙ number-refused a.degree (lists a.knots.now a.xs.now a.ys.now) a.v (lists a.out_knots.now a.out_xs.now a.out_ys.now) (λ e. c.if-number-ne-ACCEPTED.true (k.ensures.answer ∙ e))) c.if-number-ne-ACCEPTED.true;
+}
