@@ -9,7 +9,6 @@ use lib.Seq.{get_or-take, get_or-drop, get_or-append-add, length-take-le, take_a
 use Rattle.lent.specs.Lent.{over}
 use Rattle.lent.proofs.ListLaws.{take_rest}
 use Rattle.lent.proofs.OverLaws.{over-whole}
-use Rattle.insertion.proofs.OrderLaws.{either}
 use Rattle.removal_walk.specs.Walk.{BetweenSides}
 
 -- a list in two parts, by its entries: k of the first part, then the second

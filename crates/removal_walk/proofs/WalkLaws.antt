@@ -1,7 +1,7 @@
 -- A walk from the left, point by point: each is the one that any list must have which gives the old coordinates back.
-use mathlib.Core.Bool.{true, false, ◌&&◌, true≢false}
+use mathlib.Core.Bool.{true, false, true≢false}
 use mathlib.Core.List.{List}
-use mathlib.Core.Path.{◌≡◌, refl, sym, ap, ◌∙◌}
+use mathlib.Core.Path.{◌≡◌, sym, ap, ◌∙◌}
 use Prim.Native.Nat.{ℕ, ◌+◌, ◌-◌, ◌≤◌, ◌<◌}
 use native.Mathlib.Omega.{arith}
 use lib.IntN.{ℤ, pos, nat_abs, ◌*ℤ◌}
@@ -17,7 +17,7 @@ use Rattle.insertion.specs.Insertion.{insertion_span, point_at, weighted_sum}
 use Rattle.insertion.specs.Standing.{Weighed}
 use Rattle.insertion.proofs.OrderLaws.{either}
 use Rattle.insertion.proofs.CheckedLaws.{size-of-grid, grid-of-size}
-use Rattle.removal.specs.Axis.{Reduced, AxisReinserts, GivesAt, left_for}
+use Rattle.removal.specs.Axis.{Reduced, AxisReinserts, left_for}
 use Rattle.removal_walk.specs.Walk.{is_point, FarEnd, Walked}
 use Rattle.removal.proofs.EquationLaws.{reinserts-left, reinserts-rest, gives-of-rest, reduced-least, reduced-most, reduced-weighed}
 
