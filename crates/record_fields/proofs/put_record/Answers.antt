@@ -1,0 +1,28 @@
+-- Four fields, each behind the one before.
+use mathlib.Core.Path.{refl}
+use mathlib.Core.List.{[], ◌∷◌}
+use Prim.Native.Nat.{◌+◌, ◌*◌}
+use lib.ListN.{length}
+use Rattle.fields.specs.Bytes.{field_bytes, knot_bytes, coordinate_bytes}
+use Rattle.format.specs.Format.{degree_tag, knots_tag, x_tag, y_tag, record_bytes}
+use Rattle.grid.specs.Limits.{head_bytes}
+use Rattle.format.specs.RecordPlaces.{knots_field, x_field}
+use Rattle.format.proofs.SizeLaws.{length-knots, length-coordinates}
+use Rattle.record_fields.proofs.PutLaws.{put_four}
+use native.Mathlib.Omega.{arith}
+use Rattle.record_fields.proofs.put_record.Goals as goal
+
+pub returns : goal.returns
+unfolding record_bytes
+returns c = record {
+  result = let a = c.args in
+      let knots = length-knots a.knots.now in
+      let on_x = length-coordinates a.xs.now in
+      let on_y = length-coordinates a.ys.now in
+      let fourth = c.put_coordinates_field-2 in let third = c.put_coordinates_field in let second = c.put_knots_field in let first = c.put_degree in put_four a.out.now first.new.out second.new.out third.new.out fourth.new.out
+      (field_bytes degree_tag (a.degree ∷ [])) (field_bytes knots_tag (knot_bytes a.knots.now))
+      (field_bytes x_tag (coordinate_bytes a.xs.now)) (field_bytes y_tag (coordinate_bytes a.ys.now))
+      knots_field (x_field (2 * length a.knots.now)) (x_field (2 * length a.knots.now) + head_bytes + 4 * length a.xs.now)
+      refl (omega arith) (omega arith) (omega (arith, c.requires.1))
+      first.ensures.result second.ensures.result third.ensures.result fourth.ensures.result;
+}
