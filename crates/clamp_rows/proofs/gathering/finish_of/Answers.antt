@@ -1,0 +1,27 @@
+-- Each number is the one that the end has.
+use Prim.Native.Nat.{◌-◌}
+use native.Mathlib.Omega.{arith}
+use lib.ListN.{length}
+use Rattle.grid.specs.Limits.{knot_most}
+use Rattle.clamping.specs.EndRows.{finish_of}
+use Rattle.clamping.proofs.BoundLaws.{finish-near}
+use Rattle.clamp_rows.proofs.GatheringLaws.{gathered-near, point-widened}
+use Rattle.clamp_rows.proofs.gathering.finish_of.Goals as goal
+
+pub returns : goal.returns
+returns c = let whole = let ts = c.args.knots.now in
+    let ps = c.args.ps.now in
+    let n = length ps in
+    let h = c.requires.0 in
+    gathered-near (finish_of ts ps) _ _ _ _ _ _ _
+    c.gap.ensures.answer
+    c.gap-2.ensures.answer
+    c.gap-3.ensures.answer
+    c.gap-4.ensures.answer
+    (point-widened ps (n - 1) (n - 1 - 0) c.wide.result (h.range (n - 1 - 0)) (omega arith) c.wide.ensures.answer)
+    (point-widened ps (n - 2) (n - 1 - 1) c.wide-2.result (h.range (n - 1 - 1)) (omega arith) c.wide-2.ensures.answer)
+    (point-widened ps (n - 3) (n - 1 - 2) c.wide-3.result (h.range (n - 1 - 2)) (omega arith) c.wide-3.ensures.answer)
+    (omega (arith, h.closes))
+    (omega (arith, h.closes, h.rising (n - 2) (n - 1) (omega arith) (omega (arith, h.count))))
+    (finish-near ts ps knot_most h.largest)
+    (λ k. h.range (n - 1 - k)) in record { gathered = whole.0; near = whole.1 }

@@ -1,0 +1,27 @@
+-- Each number is the one that the start has.
+use Prim.Native.Nat.{◌+◌}
+use native.Mathlib.Omega.{arith}
+use mathlib.Core.Path.{refl}
+use Rattle.grid.specs.Limits.{knot_most}
+use Rattle.clamping.specs.EndRows.{start_of}
+use Rattle.clamping.proofs.BoundLaws.{start-near}
+use Rattle.clamp_rows.proofs.GatheringLaws.{gathered-near, point-widened}
+use Rattle.clamp_rows.proofs.gathering.start_of.Goals as goal
+
+pub returns : goal.returns
+returns c = let whole = let m = c.args.m in
+    let ts = c.args.knots.now in
+    let ps = c.args.ps.now in
+    let h = c.requires.0 in
+    gathered-near (start_of m ts ps) _ _ _ _ _ _ _
+    c.gap.ensures.answer
+    c.gap-2.ensures.answer
+    c.gap-3.ensures.answer
+    c.gap-4.ensures.answer
+    (point-widened ps 0 0 c.wide.result (h.range 0) refl c.wide.ensures.answer)
+    (point-widened ps 1 1 c.wide-2.result (h.range 1) refl c.wide-2.ensures.answer)
+    (point-widened ps 2 2 c.wide-3.result (h.range 2) refl c.wide-3.ensures.answer)
+    (omega (arith, h.opens))
+    (omega (arith, h.opens, h.rising (m + 1) (m + 2) (omega arith) (omega (arith, h.count, h.enough, c.requires.1))))
+    (start-near ts ps knot_most h.largest m)
+    (λ k. h.range k) in record { gathered = whole.0; near = whole.1 }
