@@ -8,7 +8,6 @@ use native.Mathlib.Nat.{le_trans, mul-le-mul_right}
 use native.Mathlib.Omega.{arith}
 use lib.IntN.{ℤ}
 use lib.ListN.{length, get_or}
-use Rattle.fractions.specs.Fraction.{whole}
 use Rattle.fractions.proofs.Rational.{class-of-equals, equals-of-class}
 use Rattle.exact.specs.ExactCurve.{exact_at}
 use Rattle.grid.specs.Check.{Passes}
