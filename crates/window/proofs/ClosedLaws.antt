@@ -1,6 +1,6 @@
 -- The window's knots without the middle one: entry by entry, and what they carry.
 use mathlib.Core.List.{List, ◌++◌}
-use mathlib.Core.Path.{◌≡◌, refl, sym, ap, ◌∙◌}
+use mathlib.Core.Path.{◌≡◌, sym, ap, ◌∙◌}
 use Prim.Native.Nat.{ℕ, ◌+◌, ◌-◌, ◌≤◌, ◌<◌}
 use native.Mathlib.Omega.{arith}
 use lib.IntN.{ℤ}
@@ -8,7 +8,7 @@ use lib.ListN.{length, get_or, take, drop, length-append, length-drop, get_or-ap
 use lib.Seq.{length-take-le, get_or-take, get_or-drop, get_or-append-add}
 use Rattle.insertion.specs.Insertion.{knots_up_to, insertion_span}
 use Rattle.insertion.proofs.OrderLaws.{either}
-use Rattle.insertion.proofs.SpanLaws.{knots_up_to-length, knots_up_to-below, knots_up_to-above, span-of-up_to}
+use Rattle.insertion.proofs.SpanLaws.{knots_up_to-below, knots_up_to-above, span-of-up_to}
 use Rattle.removal.specs.Axis.{Reduced}
 use Rattle.window.specs.Window.{middle, closed, Window}
 

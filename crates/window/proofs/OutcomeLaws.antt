@@ -1,16 +1,14 @@
 -- What one try comes to: an axis with no points, or both axes' points over the window.
-use mathlib.Core.Bool.{Bool, true, false, true≢false}
+use mathlib.Core.Bool.{true, false, true≢false}
 use mathlib.Core.List.{List}
 use mathlib.Core.Path.{◌≡◌, refl, sym, ap, ◌∙◌}
-use Prim.Native.Nat.{ℕ, ◌+◌, ◌≤◌}
-use native.Mathlib.Omega.{arith}
+use Prim.Native.Nat.{ℕ, ◌≤◌}
 use lib.IntN.{ℤ}
 use lib.ListN.{length, take}
 use lib.Seq.{take_all}
 use Rattle.lent.specs.Lent.{over}
 use Rattle.removal.specs.Axis.{AxisReinserts}
-use Rattle.removal_walk.specs.Walk.{AxisOutcome}
-use Rattle.window.specs.Window.{middle, closed, Window, Closed, Stuck, WindowOutcome}
+use Rattle.window.specs.Window.{middle, closed, WindowOutcome}
 
 -- a copy of a list that is no longer than the one it goes over
 pub copied-over : {A : Type 0} (source before after : List A) → length source ≤ length before → after ≡ over (take (length before) source) before → after ≡ over source before
