@@ -1,8 +1,7 @@
-"""For the tests of tools/: a copy of it with a pretended kit, whose programs and `rt` do what a test wants, and tests in parts."""
+"""For the tests of tools/: a copy of it with pretended programs and a pretended `rt`, which do what a test wants, and tests in parts."""
 
 import os
 import pathlib
-import platform
 import shutil
 import subprocess
 import sys
@@ -20,7 +19,7 @@ def prints(text):
 
 
 class Folder:
-    """tools/, examples/ and crates.txt as they are, and nothing else on the PATH than a few commands and the pretended kit."""
+    """tools/, examples/ and crates.txt as they are, and nothing else on the PATH than a few commands and, where a test pretends one, `rt`."""
 
     def __init__(self, folder):
         self.top = pathlib.Path(folder).resolve()
@@ -41,22 +40,35 @@ class Folder:
 
     def pretend_kit(self, rt="exit 1"):
         """An `rt` that runs this text."""
-        self.script(self.kit / "bin" / "rt", rt)
-        (self.kit / "on" / platform.machine() / "toolchain" / "lib").mkdir(parents=True, exist_ok=True)
+        self.script(self.kit / "rt", rt)
 
     def pretend_program(self, text, name="clampcheck"):
-        """A built program that runs this text, and the loader that starts it."""
-        self.pretend_kit()
-        self.script(self.kit / "on" / platform.machine() / "toolchain" / "lib" / "ld-linux-x86-64.so.2", 'exec "$3"')
+        """A built program that runs this text."""
         self.script(self.built(name), text)
 
+    def list_crates(self, text):
+        """Other crates, each with an empty source; a program that was built before is older."""
+        (self.top / "crates.txt").write_text(text)
+        for line in text.splitlines():
+            name, colon, _ = line.partition(":")
+            if colon:
+                source = self.source(name)
+                source.parent.mkdir(parents=True, exist_ok=True)
+                source.write_text("")
+
     def built(self, name="clampcheck"):
-        return self.top / "target" / "bin" / name
+        return self.top / "crates" / name / "out" / name
+
+    def source(self, name):
+        return self.top / "crates" / name / "src" / "lib.rt"
+
+    def path(self):
+        """Where commands are looked for."""
+        return os.pathsep.join(map(str, (self.commands, self.kit)))
 
     def run(self, *words, given=b"", **more):
         """Runs words in the folder."""
-        paths = [self.commands] + ([self.kit / "bin"] if self.kit.exists() else [])
-        surroundings = {"PATH": os.pathsep.join(map(str, paths)), "PYTHONDONTWRITEBYTECODE": "1"}
+        surroundings = {"PATH": self.path(), "PYTHONDONTWRITEBYTECODE": "1"}
         more = {"stdout": subprocess.PIPE, "stderr": subprocess.PIPE, **({"input": given} if "stdin" not in more else {}), **more}
         return subprocess.run([str(word) for word in words], cwd=self.top, env=surroundings, timeout=60, **more)
 

@@ -1,16 +1,13 @@
-"""Runs the built programs, clampcheck and curvesvg: directly on x86-64, under the kit's emulator on any other machine."""
+"""Knows where the kit, the built programs and the archive lie, and runs the programs, clampcheck and curvesvg."""
 
-import os
 import pathlib
-import platform
 import shutil
 import subprocess
 
 import job_bytes
 
 TOP = pathlib.Path(__file__).resolve().parents[1]
-BUILT = TOP / "target" / "bin"
-PROGRAM = BUILT / "clampcheck"
+ARCHIVE = TOP / "target" / "staticlib" / "libtsaghnobir.a"
 WAY = {"clampcheck": "tools/try.sh", "curvesvg": "tools/try.sh --svg"}  # to prove and build each
 SECONDS = 60
 
@@ -20,28 +17,27 @@ class NotRun(Exception):
 
 
 class NotBuilt(NotRun):
-    """There is no program yet, or no kit to run it with."""
+    """There is no program yet, or no kit to build it with."""
 
 
-def toolchain():
-    """The kit's folder of compiled tools for this machine."""
-    found = shutil.which("rt")
-    home = os.environ.get("RATTLE_HOME") or (found and pathlib.Path(found).resolve().parents[1])
-    tools = pathlib.Path(home or "/nowhere") / "on" / platform.machine() / "toolchain"
-    if not tools.is_dir():
-        raise NotBuilt("the Rattle kit (`rt`) is not on the PATH, or has nothing for %s" % platform.machine())
-    return tools
+def kit():
+    """The folder of the kit whose `rt` is on the PATH, or NotBuilt."""
+    if not shutil.which("rt"):
+        raise NotBuilt("the Rattle kit (`rt`) is not on the PATH")
+    said = subprocess.run(["rt", "doc"], stdout=subprocess.PIPE, check=True, text=True).stdout.strip()
+    return pathlib.Path(said).parent
 
 
-def command(built=PROGRAM):
-    """The words that start clampcheck, or another built program, with the kit's own loader and C library, as `rt` starts it."""
-    if not built.is_file():
-        way = WAY.get(built.name, WAY["clampcheck"])
-        raise NotBuilt("%s is not there: %s proves and builds it" % (built.relative_to(TOP), way))
-    tools = toolchain()
-    emulator = tools / "bin" / "qemu-x86_64"
-    words = [tools / "lib" / "ld-linux-x86-64.so.2", "--library-path", tools / "lib", built]
-    return [str(word) for word in ([emulator] if emulator.is_file() else []) + words]
+def built(name):
+    """Where `rt` leaves the program of this name."""
+    return TOP / "crates" / name / "out" / name
+
+
+def command(name):
+    """The words that start the built program of this name, or NotBuilt."""
+    if not built(name).is_file():
+        raise NotBuilt("%s is not there: %s proves and builds it" % (built(name).relative_to(TOP), WAY[name]))
+    return [str(built(name))]
 
 
 def read_input(name):
@@ -53,7 +49,7 @@ def read_input(name):
 def run(name, data):
     """What the program of this name prints on some bytes, or NotRun."""
     try:
-        ended = subprocess.run(command(BUILT / name), input=data, stdout=subprocess.PIPE, timeout=SECONDS)
+        ended = subprocess.run(command(name), input=data, stdout=subprocess.PIPE, timeout=SECONDS)
     except subprocess.TimeoutExpired:
         raise NotRun("%s had not ended after %d seconds" % (name, SECONDS)) from None
     except OSError as fault:

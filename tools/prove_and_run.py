@@ -1,7 +1,6 @@
 """The Python part of tools/try.sh: looks at the job, proves and builds clampcheck or curvesvg with a line for each crate, and runs it."""
 
 import os
-import re
 import shlex
 import shutil
 import subprocess
@@ -9,6 +8,7 @@ import sys
 
 import answer
 import asking
+import crates
 import program
 import text_kind
 
@@ -43,37 +43,27 @@ def look(name, way):
     return data
 
 
-def crates_under(name):
-    """A crate and all crates that it stands on, as crates.txt lists them."""
-    lines = (program.TOP / "crates.txt").read_text().splitlines()
-    listed = {line.split(":")[0]: line.split(":")[1].split() for line in lines if ":" in line and not line.startswith("#")}
-    found, waiting = set(), [name]
-    while waiting:
-        crate = waiting.pop()
-        if crate in listed and crate not in found:
-            found.add(crate)
-            waiting += listed[crate]
-    return found
+def tried(words, folder, what):
+    """Runs `rt` in a folder; NotTried with the end of what it printed where that fails."""
+    ended = subprocess.run(words, cwd=folder, stdin=subprocess.DEVNULL, stdout=subprocess.PIPE, stderr=subprocess.STDOUT, text=True, errors="replace")
+    if ended.returncode:
+        last = ended.stdout.splitlines(True)[-LAST_LINES:]
+        raise NotTried("".join(last) + "%s is not proved: %s ended with status %d." % (what, " ".join(words), ended.returncode))
 
 
-def prove(crate):
-    """Proves and builds the crate of a program; NotTried with the end of what `rt` printed where that fails."""
+def prove(name):
+    """Proves a program and the libraries below it, one after the other, and builds it; what is newer than all their files is left as it is."""
     if not shutil.which("rt"):
         raise NotTried("The Rattle kit (rt) is not on the PATH.")
-    crates = len(crates_under(crate))
-    say("Proving and building %s, %d crates; the first time this takes some minutes." % (crate, crates))
-    printed, proved = [], 0
-    words = ["rt", "check", crate]
-    with subprocess.Popen(words, cwd=program.TOP, stdout=subprocess.PIPE, stderr=subprocess.STDOUT, text=True, errors="replace") as rt:
-        for line in rt.stdout:
-            printed.append(line)
-            name = re.match(r"rt: (\w+) proved ", line)
-            if name:
-                proved += 1
-                say("proved %s (%d of %d)" % (name[1], proved, crates))
-    if rt.returncode:
-        words = "%s is not proved: rt check ended with status %d."
-        raise NotTried("".join(printed[-LAST_LINES:]) + words % (crate, rt.returncode))
+    every = crates.under(name)
+    if crates.is_newer(program.built(name), every):
+        say("%s is proved and built: it is newer than all files of its %d crates." % (name, len(every)))
+        return
+    say("Proving and building %s, %d crates; the first time this takes a while." % (name, len(every)))
+    for count, crate in enumerate(every, 1):
+        # a program is run too; without input it soon ends
+        tried(["rt", "run" if crate == name else "lib"], program.TOP / "crates" / crate, crate)
+        say("proved %s (%d of %d)" % (crate, count, len(every)))
 
 
 def show(asked, data, name):

@@ -237,7 +237,7 @@ def programs(folder):
 
 @in_folder
 def surroundings(folder):
-    """No file, no output, no kit, no program, no Python: 3."""
+    """No file, no output, no program, no Python: 3. The kit is not needed, and not there."""
     folder.pretend_program(prints(SIGN_TEXT), "curvesvg")
     ended = folder.run("tools/curvesvg", "examples/sign.job")
     assert (ended.returncode, ended.stdout) == (0, SIGN_TEXT), "a file is not read"
@@ -253,7 +253,7 @@ def surroundings(folder):
         assert ended.returncode == 3 and said in ended.stderr, "%s: %d %r" % (words, ended.returncode, ended.stderr)
     folder.built("curvesvg").unlink()
     ended = folder.run("tools/curvesvg", "examples/sign.job")
-    assert ended.returncode == 3 and b"target/bin/curvesvg is not there: tools/try.sh --svg proves and builds it" in ended.stderr, ended
+    assert ended.returncode == 3 and b"crates/curvesvg/out/curvesvg is not there: tools/try.sh --svg proves and builds it" in ended.stderr, ended
     (folder.commands / "python3").unlink()
     assert folder.run("tools/curvesvg", "examples/sign.job").returncode == 3, "no Python"
 

@@ -1,5 +1,6 @@
-"""tools/try.sh with a pretended kit: the job is looked at before any proof, crates are told as they come, refusals in words."""
+"""tools/try.sh with a pretended `rt`: the job is looked at before any proof, crates are told as they come, refusals in words."""
 
+import os
 import pathlib
 import subprocess
 import sys
@@ -14,9 +15,11 @@ from second_program.curve import Curve  # noqa: E402
 from second_program.job_cases import job_of  # noqa: E402
 from second_program.path_data import curvesvg_text  # noqa: E402
 
-CRATES = "# what is listed\nrefusal:\ngrid: refusal\nother: grid\nclampcheck: io grid refusal\ncurvesvg: io refusal\n"
-PROVES = "printf 'rt: refusal proved (unchanged since it was last proved)\\nlogic=proved\\nrt: grid proved (9 s)\\nrt: ok\\n'"
-WAITS = "printf 'rt: refusal proved (1 s)\\n'; n=0; while [ ! -e go ]; do n=$((n+1)); [ $n -lt 200 ] || exit 1; sleep 0.05; done"
+CRATES = "# what is listed\ngrid: refusal\nother: grid\nrefusal:\nclampcheck: io grid refusal\ncurvesvg: io refusal\n"
+CALLS = "lib in refusal\nlib in grid\nrun in clampcheck\n"
+PROVES = "printf '%s in %s\\n' \"$*\" \"${PWD##*/}\" >>../../calls"
+FAILS = "; [ ${PWD##*/} != grid ] || { printf 'error: a fact fails\\n' >&2; exit 1; }"
+WAITS = "[ ${PWD##*/} = grid ] || exit 0; n=0; while [ ! -e ../../go ]; do n=$((n+1)); [ $n -lt 200 ] || exit 1; sleep 0.05; done"
 ADVICE = "    python3 tools/job.py make 'my sign.txt' 'my sign.job'\n    tools/try.sh%s 'my sign.job'\n"
 SAMPLE = (TOP / "examples" / "sign.job").read_bytes()
 SAMPLE_TEXT = b"""curve degree 3 points 12 spans 9
@@ -64,22 +67,53 @@ def look(folder):
 
 @in_folder
 def prove(folder):
-    """A line for each crate; a failure shows what `rt` printed last, and no answer."""
+    """Each crate behind those that it stands on, with a line for each; a failure shows what `rt` printed last, and no answer."""
     folder.pretend_program("cat >/dev/null; cat sign.out")
     (folder.top / "sign.out").write_bytes(SAMPLE_TEXT)
-    (folder.top / "crates.txt").write_text(CRATES)
+    folder.list_crates(CRATES)
     folder.pretend_kit(PROVES)
     ended = folder.run("tools/try.sh")
     lines = ended.stderr.decode().splitlines()
     assert (ended.returncode, ended.stdout) == (0, SAMPLE_TEXT), ended
-    assert lines[1:] == ["proved refusal (1 of 3)", "proved grid (2 of 3)", "clampcheck < examples/sign.job"], lines
-    folder.pretend_kit(PROVES + "; printf 'error: a fact fails\\n' >&2; exit 1")
+    assert lines[1:] == ["proved refusal (1 of 3)", "proved grid (2 of 3)", "proved clampcheck (3 of 3)", "clampcheck < examples/sign.job"], lines
+    assert (folder.top / "calls").read_text() == CALLS, (folder.top / "calls").read_text()
+    folder.pretend_kit(PROVES + FAILS)
     ended = folder.run("tools/try.sh")
     assert (ended.returncode, ended.stdout) == (3, b""), "an answer without a proof"
-    assert b"error: a fact fails\nclampcheck is not proved: rt check ended with status 1.\n" in ended.stderr, ended.stderr
-    (folder.kit / "bin" / "rt").unlink()
+    assert b"(1 of 3)\nerror: a fact fails\ngrid is not proved: rt lib ended with status 1.\n" in ended.stderr, ended.stderr
+    (folder.kit / "rt").unlink()
     ended = folder.run("tools/try.sh")
     assert ended.returncode == 3 and b"The Rattle kit (rt) is not on the PATH." in ended.stderr
+
+
+@in_folder
+def proved_before(folder):
+    """A program that is newer than all files of its crates is not proved again; one that is older than any of them, or not there, is."""
+    (folder.top / "sign.out").write_bytes(SAMPLE_TEXT)
+    folder.list_crates(CRATES)
+    folder.pretend_kit(PROVES)
+    folder.pretend_program("cat >/dev/null; cat sign.out")
+    at = folder.built().stat().st_mtime_ns
+    for changed, later, starts in (
+        (folder.source("grid"), -1, False),
+        (folder.source("grid"), 0, True),
+        (folder.source("grid"), 1, True),
+        (folder.source("grid").parent, 1, True),
+        (folder.source("other"), 1, False),
+        (folder.top / "crates.txt", 1, True),
+    ):
+        for path in (folder.top / "crates.txt", *(folder.top / "crates").glob("*/src"), *(folder.top / "crates").glob("*/src/*")):
+            os.utime(path, ns=(at - 10**9, at - 10**9))
+        os.utime(changed, ns=(at + later * 10**9, at + later * 10**9))
+        ended = folder.run("tools/try.sh")
+        assert (ended.returncode, ended.stdout) == (0, SAMPLE_TEXT), ended
+        assert ("clampcheck is proved and built: it is newer than all files of its 3 crates." in ended.stderr.decode()) != starts, (changed, ended.stderr)
+        assert (folder.top / "calls").exists() == starts, "%s, %d s later than the program" % (changed, later)
+        if starts:
+            (folder.top / "calls").unlink()
+    folder.built().unlink()
+    ended = folder.run("tools/try.sh")
+    assert ended.returncode == 3 and (folder.top / "calls").read_text() == CALLS, "what is not there counts as newer: %r" % ended
 
 
 @in_folder
@@ -87,10 +121,9 @@ def at_once(folder):
     """The first crate is told of while the second is still being proved."""
     folder.pretend_program("cat >/dev/null; cat sign.out")
     (folder.top / "sign.out").write_bytes(SAMPLE_TEXT)
-    (folder.top / "crates.txt").write_text(CRATES)
+    folder.list_crates(CRATES)
     folder.pretend_kit(WAITS)
-    surroundings = {"PATH": "%s:%s" % (folder.commands, folder.kit / "bin")}
-    with subprocess.Popen(["tools/try.sh"], cwd=folder.top, env=surroundings, stdout=subprocess.PIPE, stderr=subprocess.PIPE) as child:
+    with subprocess.Popen(["tools/try.sh"], cwd=folder.top, env={"PATH": folder.path()}, stdout=subprocess.PIPE, stderr=subprocess.PIPE) as child:
         seen = [child.stderr.readline(), child.stderr.readline()]
         (folder.top / "go").write_text("")
         child.stderr.read()
@@ -122,16 +155,17 @@ def svg(folder):
     folder.pretend_program("exit 1")
     folder.pretend_program("cat >given; cat sign.out", "curvesvg")
     (folder.top / "sign.out").write_bytes(PATH)
-    (folder.top / "crates.txt").write_text(CRATES)
-    folder.pretend_kit('[ "$*" = "check curvesvg" ] || exit 1; ' + PROVES)
+    folder.list_crates(CRATES)
+    folder.pretend_kit(PROVES)
     ended = folder.run("tools/try.sh", "--svg")
     assert (ended.returncode, ended.stdout) == (0, PATH), ended
     assert ended.stderr.decode().splitlines() == [
-        "Proving and building curvesvg, 2 crates; the first time this takes some minutes.",
+        "Proving and building curvesvg, 2 crates; the first time this takes a while.",
         "proved refusal (1 of 2)",
-        "proved grid (2 of 2)",
+        "proved curvesvg (2 of 2)",
         "curvesvg < the curve in examples/sign.job",
     ], ended.stderr
+    assert (folder.top / "calls").read_text() == "lib in refusal\nrun in curvesvg\n", "another crate is proved"
     assert (folder.top / "given").read_bytes() == record_in(SAMPLE) == SAMPLE[:141], "curvesvg is given something else than the record"
     (folder.top / "uncut.job").write_bytes(UNCUT)
     (folder.top / "sign.out").write_bytes(b"refused 11\n")
@@ -143,7 +177,7 @@ def svg(folder):
     assert (ended.returncode, ended.stdout) == (3, b"") and b"cut off" in ended.stderr, ended
     folder.pretend_kit("exit 1")
     ended = folder.run("tools/try.sh", "--svg")
-    assert ended.returncode == 3 and b"curvesvg is not proved: rt check ended with status 1." in ended.stderr, ended
+    assert ended.returncode == 3 and b"refusal is not proved: rt lib ended with status 1." in ended.stderr, ended
 
 
-run_parts("tools/try.sh: 8 jobs looked at, 6 proofs, 5 refusals", look, prove, at_once, refusal, svg)
+run_parts("tools/try.sh: 8 jobs looked at, 12 proofs, 5 refusals", look, prove, proved_before, at_once, refusal, svg)
