@@ -1,7 +1,7 @@
 """Opens path data of the built curvesvg in a real SVG reader and holds the outline that it draws against points of the proved point call.
 
 It is no part of the gate, for the reader is not in the kit: rsvg-convert, in Debian's package librsvg2-bin, draws the path as a PNG picture. It needs the
-crates proved, with target/bin/curvesvg built, and takes some seconds behind the building of the archive.
+crates proved, with crates/curvesvg/out/curvesvg built, and takes some seconds behind the building of the archive.
 
 Curves of every degree that can be cut, and the sample, are drawn as README.md draws a path. The points come from tsb_point in the archive, at so many
 whole parameters that they lie close together. Every point has to lie on the drawn line, and no place of the line far from all points. Then wrong paths

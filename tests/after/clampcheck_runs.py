@@ -222,7 +222,7 @@ def main():
     of_last = [line for line in expected(longest_text()).splitlines(True) if line.startswith("clamp 64 ")]
     assert sum(map(len, of_last)) == LONGEST_OF_CLAMP, "the longest text is not the one that is meant"
     try:
-        words = program.command()
+        words = program.command("clampcheck")
     except program.NotBuilt as fault:
         sys.exit(str(fault))
     chosen = list(runs(words))

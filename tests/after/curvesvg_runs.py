@@ -39,7 +39,6 @@ from second_program.job_cases import job_of  # noqa: E402
 from second_program.path_data import LONGEST, curvesvg_text  # noqa: E402
 from second_program.record import record_of  # noqa: E402
 
-BUILT = program.PROGRAM.with_name("curvesvg")
 MOST_SECONDS = 60
 EACH_NUMBER = 9
 RECORD_A, RECORD_B = record_of(WORKED_A), record_of(WORKED_B)
@@ -144,7 +143,7 @@ def main():
     assert len(LONGEST_RECORD) == 10261 and len(curvesvg_text(LONGEST_RECORD)) > 9000, "the longest record is not the one that is meant"
     assert len(curvesvg_text(LONGEST_TEXT)) == LONGEST + 1, "the longest text is not the one that is meant"
     try:
-        words = program.command(BUILT)
+        words = program.command("curvesvg")
     except program.NotBuilt as fault:
         sys.exit(str(fault))
     chosen = list(runs(words))

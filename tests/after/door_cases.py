@@ -22,7 +22,6 @@ from harness.fed_jobs import fed_jobs, jobs_in, overlong  # noqa: E402
 from harness.run_faults import run_faults  # noqa: E402
 from harness.shapes import EXPORTED, NUMBER, PLACED, Broken, Reader, read_cases, told_in  # noqa: E402
 from harness.worked import Unreadable, worked_cases  # noqa: E402
-from program import NotBuilt  # noqa: E402
 from second import ANSWERS, CASES, LEAST_CASES, too_few  # noqa: E402
 
 
@@ -98,7 +97,7 @@ def main():
         with ThreadPoolExecutor(2) as pool:
             faults = [fault for found in pool.map(lambda word: faults_of(word, cases + fed), ("first", "second")) for fault in found]
         faults += [*too_few(EXPORTED, vectors), *comparison_is_blind(cases), *guards_are_blind(cases)]
-    except (Broken, Unreadable, driver.Failed, NotBuilt) as fault:
+    except (Broken, Unreadable, driver.Failed) as fault:
         sys.exit(str(fault))
     if len(vectors) < LEAST_CASES:
         faults.append("there are %d cases of the second program" % len(vectors))

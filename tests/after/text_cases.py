@@ -70,7 +70,7 @@ def main():
     began = time.monotonic()
     try:
         cases = [case for case in read_cases(CASES.read_bytes(), ANSWERS.read_bytes()) if case.call == CALL]
-        answers = answers_to(program.command(), cases)
+        answers = answers_to(program.command("clampcheck"), cases)
     except (Broken, program.NotBuilt) as fault:
         sys.exit(str(fault))
     differs = first_difference(cases, b"".join(answers))

@@ -1,19 +1,14 @@
 """Builds the driver of tests/driver over the header and the archive, and runs cases through it."""
 
 import subprocess
-import sys
 from pathlib import Path
 
+from .shapes import case_bytes
+
 TOP = Path(__file__).resolve().parents[2]
-sys.path.insert(0, str(TOP / "tools"))
-
-import program  # noqa: E402
-
-from .shapes import case_bytes  # noqa: E402
-
 SOURCES = sorted((TOP / "tests" / "driver").glob("*.c"))
 BUILT = TOP / "target" / "c" / "driver"
-TIMEOUT = 300  # a run takes some seconds on x86-64, and a minute and more under the emulator on Arm with another script beside it
+TIMEOUT = 300  # a run takes some seconds, and more with other scripts beside it
 
 
 class Failed(Exception):
@@ -29,9 +24,8 @@ def build():
 
 def run(word, cases=()):
     """The driver's exit status, what it wrote, and the faults it told, a line for each. A call that does not come back is a fault too."""
-    words = [*program.command(BUILT), word]
     try:
-        ended = subprocess.run(words, input=case_bytes(cases), stdout=subprocess.PIPE, stderr=subprocess.PIPE, timeout=TIMEOUT)
+        ended = subprocess.run([str(BUILT), word], input=case_bytes(cases), stdout=subprocess.PIPE, stderr=subprocess.PIPE, timeout=TIMEOUT)
     except subprocess.TimeoutExpired as late:
         return 1, late.stdout or b"", ["the driver did not end within %d s" % TIMEOUT]
     return ended.returncode, ended.stdout, ended.stderr.decode("utf-8", "replace").splitlines()
