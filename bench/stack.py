@@ -2,9 +2,9 @@
 
     stack.py OBJDUMP [all] [FUNCTION=TURNS ..] FILE..
 
-OBJDUMP disassembles; FILE is an archive or an object file for x86-64, with a section for each function. A line for each global function (`all`: for each):
-the bytes below its caller's stack pointer, return address included, and the calls on the deepest way. Every instruction that can be reached counts with the
-depth that it is reached with; a place below the pointer that is read by an index does not, since it was written before. Of a function that calls itself the
+OBJDUMP disassembles: llvm-objdump, or a compiler that is it under that name. FILE is an archive or an object file for x86-64, with a section for each
+function. A line for each global function (`all`: for each): the bytes below its caller's stack pointer, return address included, and the calls on the
+deepest way. Every instruction that can be reached counts with the depth that it is reached with; a place below the pointer that is read by an index does not, since it was written before. Of a function that calls itself the
 most turns must be told. A function of another library (memcpy) counts with its return address alone. Code that cannot be followed (a jump through a register,
 a computed stack pointer) ends the reading: no figure is better than a wrong one.
 """
@@ -25,16 +25,52 @@ GLOBAL = re.compile(r"^[0-9a-f]+ g +F \S+\s+[0-9a-f]+ (?:\.hidden )?(\S+)$")
 STEP = re.compile(r"^\$(-?0x[0-9a-f]+), %rsp$")
 MARK = re.compile(r"^%rsp, (%\w+)$")
 MARK_STEP = re.compile(r"^\$(0x[0-9a-f]+), (%\w+)$")
-MARK_MET = re.compile(r"^(%\w+), %rsp$")
-BELOW = re.compile(r"-(0x[0-9a-f]+)\(%rsp[,)]")
+COMPARED = re.compile(r"^(?:(%\w+), %rsp|%rsp, (%\w+))$")
+TO_MARK = re.compile(r"^(%\w+), %rsp$")
+NEAR_MARK = re.compile(r"^(-?)(0x[0-9a-f]+)\((%\w+)\), %rsp$")
+BELOW = re.compile(r"-(0x[0-9a-f]+)\((%\w+)[,)]")
 INDEXED_SOURCE = re.compile(r"-0x[0-9a-f]+\(%rsp,[^)]*\), ")
 PLACE = re.compile(r"^0x[0-9a-f]+$")
 WRITES_POINTER = re.compile(r"(?:^|, )%[er]?spl?$")
 KEEPS_OPERANDS = {"cmpq", "testq"}
+# instructions that write nothing but their last operand, and the registers that a call leaves as they were
+PLAIN = re.compile(r"^(?:mov(?!s[bwlq]$)\w*|lea[lq]|(?:add|sub|cmp|test|xor|and|or|inc|dec|neg|not|push|pop)[bwlq]|set\w+|cmov\w+|j\w+|nop\w?)$")
+KEPT_BY_CALLS = {"%rbx", "%rbp", "%r12", "%r13", "%r14", "%r15"}
+LAST = re.compile(r"(?:^|, )%(\w+)$")
+PART = re.compile(r"^[er]?([abcd])[xlh]$|^[er]?(si|di|bp|sp)l?$|^r(\d+)[dwb]?$")
 
 
 class NotFollowed(Exception):
     """Code that this reading does not follow."""
+
+
+def whole(part):
+    """The register of 64 bits that this name is a part of, or the name itself."""
+    found = PART.match(part)
+    letter, word, number = found.groups() if found else (None, None, None)
+    return "%" + ("r%sx" % letter if letter else "r" + (word or number) if found else part)
+
+
+def compared(operands):
+    """The register that is compared with the stack pointer, if one is."""
+    found = COMPARED.match(operands)
+    return found and (found[1] or found[2])
+
+
+def marked(name, operands, depth, marks):
+    """The marks after an instruction: registers that hold a place of the stack, each with its depth."""
+    mark, mark_step, last = MARK.match(operands), MARK_STEP.match(operands), LAST.search(operands)
+    if name == "callq":
+        return {register: at for register, at in marks.items() if register in KEPT_BY_CALLS}
+    if not PLAIN.match(name):
+        return {}
+    if name in KEEPS_OPERANDS:
+        return marks
+    if name == "movq" and mark:
+        return {**marks, mark[1]: depth}
+    if name == "subq" and mark_step and mark_step[2] in marks:
+        return {**marks, mark_step[2]: marks[mark_step[2]] + int(mark_step[1], 16)}
+    return {register: at for register, at in marks.items() if not last or register != whole(last[1])}
 
 
 class Function:
@@ -44,54 +80,61 @@ class Function:
         self.name, self.code, self.leads_to = name, [], {}
 
     def depths(self):
-        """How far the stack pointer stands below the return address, for the index of each instruction that is reached."""
+        """For the index of each instruction that is reached how far the stack pointer stands below the return address, and the marks."""
         index_of = {one.at: index for index, one in enumerate(self.code)}
-        found, ways, marks = {}, [(0, 0)], {}
+        found, ways = {}, [(0, 0, {})]
         while ways:
-            index, depth = ways.pop()
-            while index not in found:
+            index, depth, marks = ways.pop()
+            while True:
                 if index == len(self.code):
                     raise NotFollowed("%s runs past its end" % self.name)
-                found[index] = depth
+                if index in found:
+                    known_depth, known = found[index]
+                    if known_depth != depth:
+                        raise NotFollowed("%s reaches %x with two depths" % (self.name, self.code[index].at))
+                    # where two ways meet, a mark stays that both have
+                    marks = {register: at for register, at in known.items() if marks.get(register) == at}
+                    if marks == known:
+                        break
+                found[index] = depth, marks
                 _, name, operands = self.code[index]
-                depth = self.moved(name, operands, depth, marks)
+                depth, marks = self.moved(name, operands, depth, marks), marked(name, operands, depth, marks)
                 if name in ("retq", "ud2") or (name == "jmp" and index in self.leads_to):
                     break
-                if name.startswith("j") and not self.touches_pages(index):
+                if name.startswith("j"):
                     if not PLACE.match(operands) or int(operands, 16) not in index_of:
                         raise NotFollowed("%s jumps to %s" % (self.name, operands))
-                    ways.append((index_of[int(operands, 16)], depth))
+                    to = index_of[int(operands, 16)]
+                    if not self.takes_more(index, to, marks):
+                        ways.append((to, depth, marks))
                     if name == "jmp":
                         break
                 index += 1
-            else:
-                if found[index] != depth:
-                    raise NotFollowed("%s reaches %x with two depths" % (self.name, self.code[index].at))
         return found
 
     def moved(self, name, operands, depth, marks):
-        """The depth after an instruction. A large frame is taken page by page until the pointer meets a mark, a register with its last place."""
-        step, mark_step, met = STEP.match(operands), MARK_STEP.match(operands), MARK_MET.match(operands)
+        """The depth after an instruction. Where the pointer is compared with a mark, it is taken on, step by step, until it meets or passes it."""
+        step, to_mark, near_mark = STEP.match(operands), TO_MARK.match(operands), NEAR_MARK.match(operands)
         if name == "pushq":
             return depth + WORD
         if name == "popq":
             return depth - WORD
         if name in ("subq", "addq") and step:
             return depth + int(step[1], 16) * (1 if name == "subq" else -1)
-        if name == "cmpq" and met and met[1] in marks:
-            return marks[met[1]]
+        if name == "cmpq" and compared(operands) in marks:
+            return marks[compared(operands)]
+        if name == "movq" and to_mark and to_mark[1] in marks:
+            return marks[to_mark[1]]
+        if name == "leaq" and near_mark and near_mark[3] in marks:
+            return marks[near_mark[3]] + int(near_mark[2], 16) * (1 if near_mark[1] else -1)
         if name not in KEEPS_OPERANDS and WRITES_POINTER.search(operands):
             raise NotFollowed("%s computes its stack pointer: %s %s" % (self.name, name, operands))
-        if name == "movq" and MARK.match(operands):
-            marks[MARK.match(operands)[1]] = depth
-        if name == "subq" and mark_step and mark_step[2] in marks:
-            marks[mark_step[2]] += int(mark_step[1], 16)
         return depth
 
-    def touches_pages(self, index):
-        """Whether a jump goes back to take the next page of a large frame: the pointer was compared with a mark just before."""
+    def takes_more(self, index, to, marks):
+        """Whether a jump goes back to take the next step of a large frame: the pointer was compared with a mark just before."""
         before = self.code[index - 1]
-        return before.name == "cmpq" and MARK_MET.match(before.operands) is not None
+        return to <= index and before.name == "cmpq" and compared(before.operands) in marks
 
 
 def functions_in(listing):
@@ -132,7 +175,7 @@ class Stacks:
 
     def looked_at(self, one, above):
         most, way, again = 0, (), None
-        for index, depth in one.depths().items():
+        for index, (depth, marks) in one.depths().items():
             _, operation, operands = one.code[index]
             reach, calls, leads_to = depth, (), one.leads_to.get(index)
             if leads_to == one.name:
@@ -143,7 +186,8 @@ class Stacks:
             elif operation == "callq":
                 raise NotFollowed("%s calls %s" % (one.name, operands))
             elif operation.startswith("lea") or not INDEXED_SOURCE.search(operands):  # a function that calls nothing may use places below its stack pointer
-                reach += max((int(below, 16) for below in BELOW.findall(operands)), default=0)
+                places = {"%rsp": depth, **marks}
+                reach = max([depth, *(places[near] + int(below, 16) for below, near in BELOW.findall(operands) if near in places)])
             if (reach, len(calls)) > (most, len(way)):
                 most, way = reach, calls
         most = -(-most // WORD) * WORD
@@ -158,8 +202,8 @@ class Stacks:
 
 def figures(objdump, path, turns=None, every=False):
     """The functions that a file offers, or every one of its functions, each with its stack and the calls on its deepest way."""
-    words = [str(objdump), "-d", "-r", "-t", "--no-show-raw-insn", str(path)]
-    ran = subprocess.run(words, stdout=subprocess.PIPE, text=True)
+    words = ["llvm-objdump", "-d", "-r", "-t", "--no-show-raw-insn", str(path)]
+    ran = subprocess.run(words, executable=objdump, stdout=subprocess.PIPE, text=True)
     functions, offered = functions_in(ran.stdout)
     if ran.returncode != 0 or not offered or not functions.keys() >= set(offered):
         raise NotFollowed("%s offers no function, or one without code" % path)

@@ -10,7 +10,7 @@ sys.dont_write_bytecode = True
 sys.path[:0] = [str(TOP / "bench"), str(TOP / "tools")]
 
 import stack  # noqa: E402
-from program import toolchain  # noqa: E402
+from program import kit  # noqa: E402
 
 # a function, its instructions, and its bytes: the return address and what stands below it
 FOLLOWED = [
@@ -30,6 +30,10 @@ FOLLOWED = [
     ("passes_on_the_stack", "subq $8, %rsp; pushq %rdi; pushq %rsi; callq returns; addq $24, %rsp; retq", 8 + 24 + 8),
     ("calls_another_library", "pushq %rbx; callq memcpy; popq %rbx; retq", 8 + 8 + 8),
     ("page_by_page", "movq %rsp, %r11; subq $0x3000, %r11; 1: subq $0x1000, %rsp; movq $0, (%rsp); cmpq %r11, %rsp; jne 1b; subq $24, %rsp; addq $0x3018, %rsp; retq", 8 + 0x3018),
+    ("large_on_one_way", "pushq %rbp; movq %rsp, %rbp; pushq %rbx; testq %rdi, %rdi; jne 3f; leaq -8(%rbp), %rsp; popq %rbx; popq %rbp; retq; 3: movq %rsp, %rsi; subq $0x90, %rsi; cmpq %rsp, %rsi; jge 2f; 1: xorq $0, (%rsp); "
+     "subq $0xc00, %rsp; cmpq %rsp, %rsi; jl 1b; 2: movq %rsi, %rsp; callq returns; leaq -8(%rbp), %rsp; popq %rbx; popq %rbp; retq", 8 + 16 + 0x90 + 0xc00),
+    ("back_to_its_frame", "pushq %rbp; movq %rsp, %rbp; testq %rdi, %rdi; je 1f; pushq %rbx; callq saves_and_calls; subq $64, %rsp; movq %rbp, %rsp; 1: popq %rbp; retq", 8 + 16 + 64),
+    ("below_its_frame", "pushq %rbp; movq %rsp, %rbp; pushq %rbx; movq %rax, -48(%rbp); popq %rbx; popq %rbp; retq", 8 + 8 + 48),
     ("calls_itself", "pushq %rbx; testq %rdi, %rdi; je 1f; callq calls_itself; 1: popq %rbx; retq", 3 * 16),
     ("calls_one_that_does", "subq $24, %rsp; callq calls_itself; addq $24, %rsp; retq", 8 + 24 + 48),
     ("never_reached", "retq; pushq %rbx; pushq %rbx; callq saves_and_calls", 8),
@@ -43,6 +47,11 @@ REFUSED = [
     ("andq $-32, %rsp; retq", "computes its stack pointer"),
     ("leaq -8(%rsp), %rsp; retq", "computes its stack pointer"),
     ("movq %rbp, %rsp; retq", "computes its stack pointer"),
+    ("movq %rsp, %rbp; movl $0, %ebp; movq %rbp, %rsp; retq", "computes its stack pointer"),
+    ("movq %rsp, %rcx; xchgq %rcx, %rax; movq %rcx, %rsp; retq", "computes its stack pointer"),
+    ("movq %rsp, %rsi; callq memcpy; movq %rsi, %rsp; retq", "computes its stack pointer"),
+    ("movq %rsp, %rbx; testq %rdi, %rdi; je 1f; movl $0, %ebx; 1: movq %rbx, %rsp; retq", "computes its stack pointer"),
+    ("1: subq $8, %rsp; cmpq %rsi, %rsp; jne 1b; retq", "with two depths"),
     ("testq %rdi, %rdi; je 1f; pushq %rbx; 1: retq", "with two depths"),
     ("1: pushq %rbx; jmp 1b", "with two depths"),
     ("nop", "runs past its end"),
@@ -60,13 +69,10 @@ def source(name, code):
 
 def assembled(text, folder):
     made = pathlib.Path(folder) / "code.o"
-    clang = toolchain() / "bin" / "clang"
+    clang = kit() / "toolchain" / "bin" / "clang"
     words = [str(clang), "--target=x86_64-linux-gnu", "-c", "-x", "assembler", "-", "-o", str(made)]
     subprocess.run(words, input=text, text=True, check=True)
-    objdump = pathlib.Path(folder) / "llvm-objdump"
-    if not objdump.exists():
-        objdump.symlink_to(clang)
-    return objdump, made
+    return clang, made
 
 
 def main():
