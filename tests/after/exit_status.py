@@ -4,6 +4,7 @@ tests/before/tools_status.py and tools_curvesvg.py try the same with programs th
 """
 
 import pathlib
+import shutil
 import subprocess
 import sys
 import tempfile
@@ -23,6 +24,16 @@ from second_program.open_curves import spoiled_open_curve  # noqa: E402
 from second_program.record import PLACED, Fault, clampcheck_text, record_of, take_job  # noqa: E402
 
 CURVE = Curve(3, [0, 0, 0, 0, 4, 4, 4, 4], [0, 0, 8, 8], [0, 8, 8, 0])
+ONE_TEXT = """// Prints one text, whatever it is given.
+#![tactic(auto)]
+
+use std::io::Write;
+
+fn main(rt: HostRuntime) {
+    let mut out = rt.stdout();
+    let _ = out.write_all(b"%s");
+}
+"""
 
 
 def jobs():
@@ -110,14 +121,26 @@ def unbuilt():
 
 
 def tried(name, told, *words):
-    """What is proved already is told crate by crate, to the last."""
-    ended = subprocess.run([TOP / "tools" / "try.sh", *words], capture_output=True, timeout=600)
-    lines = [line for line in ended.stderr.decode().splitlines() if line.startswith("proved ")]
-    counts = [line.split("(")[1].rstrip(")").split(" of ") for line in lines]
-    assert [int(count) for count, _ in counts] == list(range(1, len(lines) + 1)), "crates are left out: %s" % lines
-    assert lines and {int(whole) for _, whole in counts} == {len(lines)} and lines[-1].startswith("proved %s " % name), lines
+    """What the gate has just proved and built is not proved again."""
+    ended = subprocess.run([TOP / "tools" / "try.sh", *words], capture_output=True, timeout=60)
+    assert ended.stderr.startswith(b"%s is proved and built: " % name.encode()), ended
     sample = (TOP / "examples" / "sign.job").read_bytes()
     assert (ended.returncode, ended.stdout.decode()) == (0, told(sample)[1]), ended
+
+
+def tried_anew():
+    """tools/try.sh with the real kit on a clampcheck that prints one text: it is proved and built with the crate below it, one after the other, and run."""
+    text = right((TOP / "examples" / "sign.job").read_bytes())[1]
+    with tempfile.TemporaryDirectory() as place:
+        top = Folder(place).top
+        (top / "crates.txt").write_text("refusal:\nclampcheck: refusal\n")
+        shutil.copytree(TOP / "crates" / "refusal", top / "crates" / "refusal", ignore=shutil.ignore_patterns("out"))
+        (top / "crates" / "clampcheck" / "src").mkdir(parents=True)
+        (top / "crates" / "clampcheck" / "src" / "main.rt").write_text(ONE_TEXT % text.replace("\n", "\\n"))
+        ended = subprocess.run([top / "tools" / "try.sh"], capture_output=True, timeout=600)
+        lines = ended.stderr.decode().splitlines()
+        assert (ended.returncode, ended.stdout.decode()) == (0, text), ended
+        assert lines[1:] == ["proved refusal (1 of 2)", "proved clampcheck (2 of 2)", "clampcheck < examples/sign.job"], lines
 
 
 def drawn():
@@ -135,5 +158,6 @@ assert met >= {0, 1, 2, 3, 4, 5, 6, 7, 10, 11, *PLACED}, "a status or a refusal 
 unbuilt()
 tried("clampcheck", right)
 tried("curvesvg", right_path, "--svg")
+tried_anew()
 drawn()
 print("tools/clampcheck: %d jobs; tools/curvesvg: %d curves; missing files and programs" % (len(list(jobs())), len(list(curves()))))
