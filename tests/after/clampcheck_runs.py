@@ -24,6 +24,7 @@ from harness.program_runs import (  # noqa: E402
     farther,
     from_file,
     in_pieces,
+    lost,
     passing_fixed,
     unnoticed,
     whole,
@@ -197,6 +198,7 @@ def runs(words):
     ):
         yield name, run, right, None
     yield from without_bytes(words, NO_BYTES)
+    yield "a full device", lambda: lost(words, WORKED), "", None
     for sample in sorted((TOP / "examples").glob("*.job")):
         yield sample.name, lambda sample=sample: from_file(words, sample), expected(sample.read_bytes()), None
 

@@ -22,6 +22,7 @@ from harness.program_runs import (  # noqa: E402
     farther,
     from_file,
     in_pieces,
+    lost,
     passing_fixed,
     unnoticed,
     whole,
@@ -127,6 +128,7 @@ def runs(words):
     ):
         yield name, run, right, None
     yield from without_bytes(words, NO_BYTES)
+    yield "a full device", lambda: lost(words, RECORD_B), "", None
 
 
 def comparison_is_blind(chosen, answers):

@@ -4,7 +4,6 @@ tests/before/tools_status.py and tools_curvesvg.py try the same with programs th
 """
 
 import pathlib
-import shutil
 import subprocess
 import sys
 import tempfile
@@ -24,6 +23,7 @@ from second_program.open_curves import spoiled_open_curve  # noqa: E402
 from second_program.record import PLACED, Fault, clampcheck_text, record_of, take_job  # noqa: E402
 
 CURVE = Curve(3, [0, 0, 0, 0, 4, 4, 4, 4], [0, 0, 8, 8], [0, 8, 8, 0])
+EMPTY = "// Nothing stands here.\n#![tactic(auto)]\n"
 ONE_TEXT = """// Prints one text, whatever it is given.
 #![tactic(auto)]
 
@@ -132,15 +132,16 @@ def tried_anew():
     """tools/try.sh with the real kit on a clampcheck that prints one text: it is proved and built with the crate below it, one after the other, and run."""
     text = right((TOP / "examples" / "sign.job").read_bytes())[1]
     with tempfile.TemporaryDirectory() as place:
-        top = Folder(place).top
-        (top / "crates.txt").write_text("refusal:\nclampcheck: refusal\n")
-        shutil.copytree(TOP / "crates" / "refusal", top / "crates" / "refusal", ignore=shutil.ignore_patterns("out"))
-        (top / "crates" / "clampcheck" / "src").mkdir(parents=True)
-        (top / "crates" / "clampcheck" / "src" / "main.rt").write_text(ONE_TEXT % text.replace("\n", "\\n"))
+        folder = Folder(place)
+        top = folder.top
+        folder.list_crates("empty:\nclampcheck: empty\n")
+        folder.source("empty").write_text(EMPTY)
+        folder.source("clampcheck").unlink()
+        folder.source("clampcheck").with_name("main.rt").write_text(ONE_TEXT % text.replace("\n", "\\n"))
         ended = subprocess.run([top / "tools" / "try.sh"], capture_output=True, timeout=600)
         lines = ended.stderr.decode().splitlines()
         assert (ended.returncode, ended.stdout.decode()) == (0, text), ended
-        assert lines[1:] == ["proved refusal (1 of 2)", "proved clampcheck (2 of 2)", "clampcheck < examples/sign.job"], lines
+        assert lines[1:] == ["proved empty (1 of 2)", "proved clampcheck (2 of 2)", "clampcheck < examples/sign.job"], lines
 
 
 def drawn():

@@ -14,9 +14,19 @@ TIMEOUT = 40
 MASKS = (0x01, 0x80, 0xFF)
 
 
+def printed(status, text):
+    """What was printed, with the status in front where it is not 0, as it always has to be."""
+    return ("status %d: " % status if status else "") + text.decode("ascii")
+
+
+def printed_by(words, **more):
+    ended = subprocess.run(words, timeout=TIMEOUT, **{"stdout": subprocess.PIPE, **more})
+    return printed(ended.returncode, ended.stdout or b"")
+
+
 def whole(words, data):
     """Standard input is a pipe that receives the bytes at once."""
-    return subprocess.run(words, input=data, stdout=subprocess.PIPE, timeout=TIMEOUT).stdout.decode("ascii")
+    return printed_by(words, input=data)
 
 
 def in_pieces(words, data, size, pause):
@@ -31,26 +41,30 @@ def in_pieces(words, data, size, pause):
 
     feeder = threading.Thread(target=feed)
     feeder.start()
-    text = child.stdout.read().decode("ascii")
+    text = child.stdout.read()
     feeder.join()
     child.stdout.close()
-    child.wait(TIMEOUT)
-    return text
+    return printed(child.wait(TIMEOUT), text)
 
 
 def from_file(words, path):
     """Standard input is a file, or something else that can be opened."""
     descriptor = os.open(path, os.O_RDONLY)
     try:
-        return subprocess.run(words, stdin=descriptor, stdout=subprocess.PIPE, timeout=TIMEOUT).stdout.decode("ascii")
+        return printed_by(words, stdin=descriptor)
     finally:
         os.close(descriptor)
 
 
 def closed(words):
     """There is no standard input at all."""
-    ended = subprocess.run(["sh", "-c", 'exec "$@" <&-', "sh", *words], stdout=subprocess.PIPE, timeout=TIMEOUT)
-    return ended.stdout.decode("ascii")
+    return printed_by(["sh", "-c", 'exec "$@" <&-', "sh", *words])
+
+
+def lost(words, data):
+    """Standard output is a device that is full, so that nothing of the text arrives."""
+    with open("/dev/full", "wb") as full:
+        return printed_by(words, input=data, stdout=full)
 
 
 def without_bytes(words, right):
