@@ -42,6 +42,13 @@ class Folder:
         """An `rt` that runs this text."""
         self.script(self.kit / "rt", rt)
 
+    def change(self, path, at, text=""):
+        """Writes a file and sets its time, and that of the folder round it, in seconds."""
+        path.parent.mkdir(parents=True, exist_ok=True)
+        path.write_text(text)
+        for one in (path, path.parent):
+            os.utime(one, (at, at))
+
     def pretend_program(self, text, name="clampcheck"):
         """A built program that runs this text."""
         self.script(self.built(name), text)

@@ -33,7 +33,7 @@ def words(crate, below, made, toolchain):
     yield from (kit / "bin" / "rattle", "build", "--crate-name", crate, "src/main.rt" if is_program else "src/lib.rt")
     yield from ("--extern", "std=%s" % (kit / "rlibs" / "std.rlib"), "-L", "dependency=%s" % (kit / "rlibs"))
     for one in stands_on:
-        yield from ("--extern", "%s=%s" % (one, library(one)))
+        yield from ("--extern", "%s=%s" % (one, library(one) if one in below else kit / "rlibs" / (one + ".rlib")))
     for one in below:
         yield from ("-L", "dependency=%s" % library(one).parent)
     yield from ("--antt-project", kit / "rattle" / "logic" / "antt-project.json", "--logic-built", kit / "logic_built")
