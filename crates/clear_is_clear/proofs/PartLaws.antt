@@ -1,4 +1,5 @@
 -- The lines of each part of the text of a job: "clamp K clear" stands in part K alone, and there only where no span may meet the clamp.
+use Rattle.clear_is_clear.specs.Clear.{later}
 use mathlib.Core.Bool.{Bool, true, false, cond}
 use mathlib.Core.List.{List, [], ◌∷◌, append-nil}
 use mathlib.Core.Path.{◌≡◌, refl, sym, ◌∙◌, ap}
@@ -25,6 +26,7 @@ use Rattle.clear_is_clear.proofs.LineLaws.{IsLine, line-whole, line-lines, curve
 -- the only one of one line
 among_one : (line other : List ℕ) → Among line (other ∷ []) → other ≡ line
 among_one line other (first rest) = refl
+among_one line other (later _ _ x3) = elim x3 [ ]
 
 -- the one line of a text that is a line
 among-line : {text line : List ℕ} → IsLine text → Among line (lines_of text) → text ≡ line
@@ -37,6 +39,7 @@ among_none line h = none [] refl h
   where
     none : (ls : List (List ℕ)) → ls ≡ [] → Among line ls → ⊥
     none (x ∷ ls) e g = let z : ◌≡◌ {A = ℕ} (length (x ∷ ls)) 0 = ap length e in omega (arith, z)
+    none [] e g = elim g [ ]
 
 -- the lines on spans are whole, and none of them says that a clamp is clear
 meet_lines-whole : (k : ℕ) (lows highs : List ℕ) → Whole (meet_lines k lows highs)

@@ -2,7 +2,7 @@
 use mathlib.Core.Bool.{Bool, true, false, not, cond, ◌&&◌}
 use mathlib.Core.List.{List, [], ◌∷◌, ◌++◌, append_assoc, append-nil}
 use mathlib.Core.Path.{◌≡◌, refl, sym, ◌∙◌, ap}
-use Prim.Native.Nat.{ℕ, zero, suc, ◌+◌, ◌/◌, ◌%◌, ◌<◌}
+use Prim.Native.Nat.{ℕ, zero, suc, ◌/◌, ◌%◌, ◌<◌}
 use native.Mathlib.Omega.{arith}
 use lib.Dec.{eqb, ltb}
 use borrow.Author.Tests.{ne_eqb}
@@ -93,6 +93,7 @@ among-either line (x ∷ a) b (later other rest h) = by (among-either line a b h
 pub among_first : (line : List ℕ) (a b : List (List ℕ)) → Among line a → Among line (a ++ b)
 among_first line (x ∷ a) b (first rest) = first (a ++ b)
 among_first line (x ∷ a) b (later other rest h) = later x (a ++ b) (among_first line a b h)
+among_first line [] b x' = elim x' [ ]
 
 pub among_second : (line : List ℕ) (a b : List (List ℕ)) → Among line b → Among line (a ++ b)
 among_second line [] b h = h
