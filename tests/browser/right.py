@@ -28,7 +28,7 @@ def curvesvg(job):
 
 def unbuilt():
     """The programs that are not built."""
-    return [name for name in ("clampcheck", "curvesvg") if not (program.BUILT / name).is_file()]
+    return [name for name in ("clampcheck", "curvesvg") if not program.built(name).is_file()]
 
 
 def verdicts(text):

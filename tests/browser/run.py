@@ -4,7 +4,7 @@
 
 prints a line for each thing that is tried and leaves pictures of the page in the folder, target/page/seen by default. Tries are named as their
 functions are, and all are made where none is named. It is no part of the gate, for the browser is not in the kit: Chromium, in Debian's package
-chromium, driven over its debugging port. Texts are held against those of target/bin/clampcheck and target/bin/curvesvg.
+chromium, driven over its debugging port. Texts are held against those of the built programs clampcheck and curvesvg.
 """
 
 import pathlib
@@ -81,7 +81,7 @@ def all_tried(page, names):
 def main(pictures, names):
     pictures.mkdir(parents=True, exist_ok=True)
     for name in right.unbuilt():
-        print("target/bin/%s is not built: texts are held against the second program's instead" % name)
+        print("%s is not built: texts are held against the second program's instead" % name)
     with chromium.running() as (port, path), tempfile.TemporaryDirectory() as saved:
         connection = WebSocket(port, path)
         browser = Browser(connection)
