@@ -6,26 +6,34 @@
 set -eu
 cd "$(dirname "$0")/.."
 case ${1-} in '' | keep) ;; *) sed -n '4,5s/^# *//p' "$0" >&2; exit 2 ;; esac
-kit=$(dirname "$(dirname "$(rt doc)")")
-clang=$kit/on/$(uname -m)/toolchain/bin/clang
-made=$PWD/target/page
+kit=$(dirname "$(rt doc)")/toolchain/bin
+made=target/page
+entry='clampcheck::main+start' # where the program begins, behind what C does for it on Linux
 mkdir -p "$made"
-ln -sf "$clang" "$made/wasm-ld" # the kit's compiler is its linker too, by the name it is called
 
-# compiles a module for WebAssembly: NAME, the file, and words for the linker; the compiler remarks that the module names another processor
-compile() {
-    "$clang" --target=wasm32 -mbulk-memory -Wno-override-module -O3 -c -x ir "target/module/$1.bc" -o "$made/$1.o" 2>"$made/$1.log" ||
-        { cat "$made/$1.log" >&2; exit 1; }
-    name=$1 file=$2
-    shift 2
-    "$made/wasm-ld" --no-entry --stack-first -z stack-size=131072 --strip-all "$@" "$made/$name.o" -o "$made/$file"
+# the kit's compiler for a 64-bit memory, in which everything lies as on x86-64; behind the target the words that the kit itself gives it
+wide() {
+    "$kit/clang" --target=wasm64-unknown-unknown -mcpu=lime1 -mllvm -expand-div-rem-bits=64 -mllvm -expand-fp-convert-bits=64 \
+        -ffunction-sections -fdata-sections -mllvm -trap-unreachable -mllvm -disable-machine-licm -mllvm -disable-postra-machine-licm \
+        -mllvm -sink-common-insts=false --no-default-config -Wno-override-module "$@" 2>"$made/clang.log" || { cat "$made/clang.log" >&2; exit 1; }
 }
 
-tools/module.sh library tsaghnobir
-tools/module.sh program clampcheck
-compile tsaghnobir library.wasm --export-dynamic --export=__heap_base
-compile clampcheck clampcheck.wasm --export=main --allow-undefined
-rm -f "$made/wasm-ld"
+# compiles a module in words and makes its memory one of 32 bits, which every browser has: the file, and words for the linker
+compile() {
+    file=$1
+    shift
+    wide -O3 -c -x ir "$made/$file.ll" -o "$made/$file.o"
+    "$kit/ld.lld" -flavor wasm -mwasm64 --no-entry --stack-first -z stack-size=131072 --strip-all "$@" "$made/$file.o" -o "$made/$file.wide.wasm"
+    python3 -B page/narrow.py "$made/$file.wide.wasm" "$made/$file.wasm"
+}
+
+tools/module.sh tsaghnobir_c
+tools/module.sh clampcheck
+wide -S -emit-llvm -Xclang -disable-llvm-passes -x ir target/module/tsaghnobir_c.bc -o "$made/library.ll"
+wide -S -emit-llvm -Xclang -disable-llvm-passes -x ir target/module/clampcheck.bc -o "$made/program.ll"
+sed "s/^define internal \(.*@\"$entry\"()\)/define \1/" "$made/program.ll" >"$made/clampcheck.ll" # so that it can be called from outside
+compile library --export-dynamic --export=__heap_base
+compile clampcheck "--export=$entry" --allow-undefined
 python3 page/pack.py "$made/library.wasm" "$made/clampcheck.wasm" "$made/clampcheck.html"
-ls -l "$made/library.wasm" "$made/clampcheck.wasm" "$made/clampcheck.html" | awk '{ print $NF ": " $5 " bytes" }' | sed "s|$PWD/||"
+ls -l "$made/library.wasm" "$made/clampcheck.wasm" "$made/clampcheck.html" | awk '{ print $NF ": " $5 " bytes" }'
 if [ "${1-}" = keep ]; then cp "$made/clampcheck.html" page/clampcheck.html; fi

@@ -37,15 +37,19 @@ function laidOut(parts, from) {
   return [at, next];
 }
 
-// A caller of the exports of an instance: numbers go as they are, a list as its place and its length, a cell as its place.
+// A caller of the exports of an instance: numbers go as they are, a list as its place and its length, a cell as its place. Places and
+// lengths have 64 bits, as on x86-64, so they go as BigInt; the memory itself is one of 32 bits (page/narrow.py).
 function asking({ memory, __heap_base: heap, ...exports }) {
   return (name, ...parts) => {
-    const [at, end] = laidOut(parts, heap.value);
+    const [at, end] = laidOut(parts, Number(heap.value));
     if (end > memory.buffer.byteLength) memory.grow(Math.ceil((end - memory.buffer.byteLength) / PAGE));
     const words = [];
     parts.forEach((part, k) => {
-      words.push(at[k]);
-      if (typeof part === "number") return;
+      if (typeof part === "number") {
+        words.push(part);
+        return;
+      }
+      words.push(BigInt(at[k]));
       const [inside, outside] = bytesAt(memory, at[k], part.entries);
       inside.set(outside);
       if (part.listed) words.push(BigInt(part.entries.length));

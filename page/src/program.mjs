@@ -1,9 +1,12 @@
 // Runs the program clampcheck itself on the bytes of a job, and gives the text that it prints.
 //
-// The program asks its surroundings for two things, to read and to write. Here it reads the bytes of the job and writes into a list.
+// The program asks its surroundings to read and to write, and by which number that has failed. Here it reads the bytes of the job and
+// writes into a list. Places and lengths have 64 bits, as on x86-64, so they come as BigInt.
 
+const ENTRY = "clampcheck::main+start";
 const INPUT = 0;
 const NOTHING = -1n;
+const BAD_FILE = 9;
 
 // What the program is handed beside its own code, and what it is asked with.
 export function surroundings() {
@@ -13,14 +16,15 @@ export function surroundings() {
       read(file, at, most) {
         if (file !== INPUT) return NOTHING;
         const part = kept.input.subarray(0, Number(most));
-        new Uint8Array(kept.memory.buffer).set(part, at);
+        new Uint8Array(kept.memory.buffer).set(part, Number(at));
         kept.input = kept.input.subarray(part.length);
         return BigInt(part.length);
       },
       write(file, at, length) {
-        kept.parts.push(new Uint8Array(kept.memory.buffer).slice(at, at + Number(length)));
+        kept.parts.push(new Uint8Array(kept.memory.buffer).slice(Number(at), Number(at + length)));
         return length;
       },
+      rattle_errno: () => BAD_FILE,
     },
   };
   return { kept, imports };
@@ -32,7 +36,7 @@ export function programOf(instance, { kept }) {
   return (bytes) => {
     kept.input = bytes;
     kept.parts = [];
-    instance.exports.main(0, 0);
+    instance.exports[ENTRY]();
     const whole = new Uint8Array(kept.parts.reduce((sum, part) => sum + part.length, 0));
     let at = 0;
     for (const part of kept.parts) {

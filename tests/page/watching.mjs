@@ -9,8 +9,8 @@ import { bytesOf } from "./answering.mjs";
 const listsIn = (read) => (ArrayBuffer.isView(read) ? [read] : Object.values(read).filter(ArrayBuffer.isView));
 const differ = (some, others) => some.some((bytes, k) => Buffer.compare(bytes, others[k]) !== 0);
 
-// Where the lists stand that an export is handed: before each length, and nothing else that it is handed is a BigInt.
-const placesIn = (words) => words.filter((_, k) => typeof words[k + 1] === "bigint");
+// Where the lists stand that an export is handed, those that it reads before all others: each is a place and a length, two BigInts.
+const placesIn = (words) => words.filter((word) => typeof word === "bigint").filter((_, k) => k % 2 === 0);
 
 // An asker of the library of an instance. In a spoiled run what it remembers is wrong by one bit, so every call has to be told.
 export function watched({ exports }, { tell, spoiled }) {
@@ -24,7 +24,7 @@ export function watched({ exports }, { tell, spoiled }) {
   };
   const inMemory = (words) => {
     const places = placesIn(words);
-    return read.map(({ byteLength }, k) => new Uint8Array(exports.memory.buffer, places[k], byteLength));
+    return read.map(({ byteLength }, k) => new Uint8Array(exports.memory.buffer, Number(places[k]), byteLength));
   };
   const watching = (call) => (...words) => {
     const before = inMemory(words).map(kept);
