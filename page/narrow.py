@@ -1,9 +1,9 @@
 """Makes of a WebAssembly module with a 64-bit memory one with a 32-bit memory: python3 page/narrow.py WIDE.wasm NARROW.wasm
 
-The kit's compiler lays the proved code out for places of 8 bytes, which a 64-bit memory keeps, but not every browser has such memories. Here
-only the instructions that use the memory change: each cuts its places to 32 bits just before. Values, calls and the memory's contents stay as
-they are, so whoever calls a function still hands it places of 64 bits. A place that a 32-bit memory cannot have is never reached, since no
-proved code leaves what it is lent, and the stack, which lies at the memory's start, ends the run below it as it would before.
+The kit lays the proved code out for places of 8 bytes, which a 64-bit memory keeps, but not every browser has such memories. Here only the
+instructions that use the memory change: each cuts its places to 32 bits just before. Values, calls and what the memory holds stay as they are,
+so whoever calls a function still hands it places of 64 bits. Proved code uses no place beyond what it is lent. A stack that grows too deep
+still ends the run: it lies at the memory's start, and a place below that becomes one near 4 GB, where there is nothing.
 
 A section or an instruction that is not known here ends the work; what was forgotten would be no valid module, since a place of 64 bits is
 no place for an instruction of a 32-bit memory.
@@ -22,7 +22,7 @@ WRAP, SET, GET, END, CONST_32, CONST_64 = b"\xa7", b"\x21", b"\x20", b"\x0b", b"
 LOADS, STORES = range(0x28, 0x36), {0x36: I32, 0x37: I64, 0x38: F32, 0x39: F64, 0x3A: I32, 0x3B: I32, 0x3C: I64, 0x3D: I64, 0x3E: I64}
 COPY, FILL = 10, 11
 
-# Instructions that leave the memory alone, by how many numbers follow them: numbers of any length, then those of four and of eight bytes.
+# Instructions that leave the memory alone, by what follows them: nothing, a number of any length, four or eight bytes.
 PLAIN = {0x00, 0x01, 0x05, 0x0B, 0x0F, 0x1A, 0x1B, *range(0x45, 0xC5)}  # ends of blocks, drop, select, all arithmetic
 NUMBERED = {0x02, 0x03, 0x04, 0x0C, 0x0D, 0x10, *range(0x20, 0x25), 0x41, 0x42}  # blocks, branches, calls, locals, globals, whole constants
 FIXED = {0x43: 4, 0x44: 8}  # other constants
