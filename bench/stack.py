@@ -5,7 +5,7 @@
 OBJDUMP disassembles: llvm-objdump, or a compiler that is it under that name. FILE is an archive or an object file for x86-64, with a section for each
 function. A line for each global function (`all`: for each): the bytes below its caller's stack pointer, return address included, and the calls on the
 deepest way. Every instruction that can be reached counts with the depth that it is reached with; a place below the pointer that is read by an index does not, since it was written before. Of a function that calls itself the
-most turns must be told. A function of another library (memcpy) counts with its return address alone. Code that cannot be followed (a jump through a register,
+most turns must be told. A function of another library (memcpy) counts with its return address alone. A jump through a table of the function's own places goes to each of them. Code that cannot be followed (any other jump through a register,
 a computed stack pointer) ends the reading: no figure is better than a wrong one.
 """
 
@@ -22,6 +22,9 @@ HEAD = re.compile(r"^([0-9a-f]+) <(.+)>:$")
 LINE = re.compile(r"^ *([0-9a-f]+):\s+([a-z][a-z0-9]*)\s*([^#<]*?)\s*(?:[#<].*)?$")
 RELOCATED = re.compile(r"^\s+[0-9a-f]+:\s+R_X86_64_(?:PLT|PC)32\s+(?:\.text\.)?(.+)-0x4$")
 GLOBAL = re.compile(r"^[0-9a-f]+ g +F \S+\s+[0-9a-f]+ (?:\.hidden )?(\S+)$")
+TABLE = re.compile(r"^RELOCATION RECORDS FOR \[(?:\.rodata\.)?(.+)\]:$")
+ENTRY = re.compile(r"^([0-9a-f]+) R_X86_64_PC32\s+\.text\.(.+)\+(0x[0-9a-f]+)$")
+BASE = re.compile(r"^\(%rip\), (%\w+)$")
 STEP = re.compile(r"^\$(-?0x[0-9a-f]+), %rsp$")
 MARK = re.compile(r"^%rsp, (%\w+)$")
 MARK_STEP = re.compile(r"^\$(0x[0-9a-f]+), (%\w+)$")
@@ -74,10 +77,11 @@ def marked(name, operands, depth, marks):
 
 
 class Function:
-    """One function: its instructions in order, and for each call or jump out of it, by its index, the function that it names."""
+    """One function: its instructions in order; for each call or jump out of it, by its index, the function that it names; its table of places to jump to, and
+    the indices at which that is taken up."""
 
     def __init__(self, name):
-        self.name, self.code, self.leads_to = name, [], {}
+        self.name, self.code, self.leads_to, self.table, self.takes_table = name, [], {}, None, set()
 
     def depths(self):
         """For the index of each instruction that is reached how far the stack pointer stands below the return address, and the marks."""
@@ -100,6 +104,11 @@ class Function:
                 _, name, operands = self.code[index]
                 depth, marks = self.moved(name, operands, depth, marks), marked(name, operands, depth, marks)
                 if name in ("retq", "ud2") or (name == "jmp" and index in self.leads_to):
+                    break
+                if name == "jmpq" and self.goes_by_table(index):
+                    if not self.table <= index_of.keys():
+                        raise NotFollowed("%s has a table that leads out of it" % self.name)
+                    ways += [(index_of[place], depth, marks) for place in self.table]
                     break
                 if name.startswith("j"):
                     if not PLACE.match(operands) or int(operands, 16) not in index_of:
@@ -131,6 +140,16 @@ class Function:
             raise NotFollowed("%s computes its stack pointer: %s %s" % (self.name, name, operands))
         return depth
 
+    def goes_by_table(self, index):
+        """Whether a jump goes to a place of the function's table: the three instructions before it take up the table, an entry, and their sum, and nobody jumps in between."""
+        if not self.table or index - 3 not in self.takes_table:
+            return False
+        take, read, add, jump = self.code[index - 3 : index + 1]
+        base, to = BASE.match(take.operands)[1], jump.operands.removeprefix("*")
+        sums = read[1:] == ("movslq", "(%s,%s,4), %s" % (base, to, to)) and add[1:] == ("addq", "%s, %s" % (base, to))
+        jumps = {int(one.operands, 16) for one in self.code if one.name.startswith("j") and PLACE.match(one.operands)} | self.table
+        return sums and base != to and jumps.isdisjoint({read.at, add.at, jump.at})
+
     def takes_more(self, index, to, marks):
         """Whether a jump goes back to take the next step of a large frame: the pointer was compared with a mark just before."""
         before = self.code[index - 1]
@@ -150,12 +169,37 @@ def functions_in(listing):
             one = functions[head[2]] = Function(head[2])
         elif relocated and one.code[-1].name in ("callq", "jmp"):
             one.leads_to[len(one.code) - 1] = relocated[1]
+        elif relocated and relocated[1] == ".rodata." + one.name and one.code[-1].name == "leaq" and BASE.match(one.code[-1].operands):
+            one.takes_table.add(len(one.code) - 1)
         elif instruction and one is not None:
             at, name, operands = int(instruction[1], 16), instruction[2], instruction[3]
             if name == "callq" and operands == "0x0":
                 one.leads_to[len(one.code)] = one.name
             one.code.append(Instruction(at, name, operands))
     return functions, sorted(offered)
+
+
+def tables_in(listing):
+    """For each function with tables of places to jump to the places. One whose data hold anything else that is known only to the linker has none."""
+    tables, name = {}, None
+    for line in listing.splitlines():
+        head, entry = TABLE.match(line), ENTRY.match(line)
+        if head:
+            name = head[1]
+            tables[name] = set()
+        elif entry and entry[2] == name and tables[name] is not None:
+            tables[name].add(int(entry[3], 16) - int(entry[1], 16))
+        elif " R_X86_64_" in line:
+            tables[name] = None
+    return tables
+
+
+def listed(objdump, path, *words):
+    """What a file's listing says; the words choose what of it."""
+    ran = subprocess.run(["llvm-objdump", *words, str(path)], executable=objdump, stdout=subprocess.PIPE, text=True)
+    if ran.returncode != 0:
+        raise NotFollowed("%s cannot be listed" % path)
+    return ran.stdout
 
 
 class Stacks:
@@ -202,11 +246,12 @@ class Stacks:
 
 def figures(objdump, path, turns=None, every=False):
     """The functions that a file offers, or every one of its functions, each with its stack and the calls on its deepest way."""
-    words = ["llvm-objdump", "-d", "-r", "-t", "--no-show-raw-insn", str(path)]
-    ran = subprocess.run(words, executable=objdump, stdout=subprocess.PIPE, text=True)
-    functions, offered = functions_in(ran.stdout)
-    if ran.returncode != 0 or not offered or not functions.keys() >= set(offered):
+    functions, offered = functions_in(listed(objdump, path, "-d", "-r", "-t", "--no-show-raw-insn"))
+    if not offered or not functions.keys() >= set(offered):
         raise NotFollowed("%s offers no function, or one without code" % path)
+    for name, table in tables_in(listed(objdump, path, "-r")).items():
+        if name in functions:
+            functions[name].table = table
     stacks = Stacks(functions, turns or {})
     return [(name, *stacks.deepest(name)) for name in (functions if every else offered)]
 

@@ -36,14 +36,27 @@ FOLLOWED = [
     ("below_its_frame", "pushq %rbp; movq %rsp, %rbp; pushq %rbx; movq %rax, -48(%rbp); popq %rbx; popq %rbp; retq", 8 + 8 + 48),
     ("calls_itself", "pushq %rbx; testq %rdi, %rdi; je 1f; callq calls_itself; 1: popq %rbx; retq", 3 * 16),
     ("calls_one_that_does", "subq $24, %rsp; callq calls_itself; addq $24, %rsp; retq", 8 + 24 + 48),
+    ("goes_by_a_table", "movl %edi, %eax; leaq .Ltable(%rip), %rsi; movslq (%rsi,%rax,4), %rax; addq %rsi, %rax; jmpq *%rax; .Lfirst: retq; .Lsecond: pushq %rbx; callq saves_and_calls; popq %rbx; retq; "
+     ".section .rodata.goes_by_a_table,\"a\",@progbits; .Ltable: .long .Lfirst-.Ltable; .long .Lsecond-.Ltable", 8 + 8 + 56),
     ("never_reached", "retq; pushq %rbx; pushq %rbx; callq saves_and_calls", 8),
 ]
 TURNS = {"calls_itself": 3}
+
+BY_TABLE = "leaq .Ltable(%rip), %rsi; movslq (%rsi,%rax,4), %rax; addq %rsi, %rax; jmpq *%rax"
+ENTRIES = ".section .rodata.one,\"a\",@progbits; .Ltable: .long .Lfirst-.Ltable; .long .Lsecond-.Ltable"
 
 # code and the words of its refusal
 REFUSED = [
     ("callq *%rax; retq", "calls *%rax"),
     ("jmpq *%rax", "jumps to *%rax"),
+    (BY_TABLE + "; .Lfirst: pushq %rbx; .Lsecond: retq; " + ENTRIES, "with two depths"),
+    (BY_TABLE + "; .Lfirst: retq; .Lsecond: nop; " + ENTRIES, "runs past its end"),
+    (BY_TABLE + "; .Lfirst: movl $0, %eax; .Lsecond = .Lfirst + 2; retq; " + ENTRIES, "leads out of it"),
+    (BY_TABLE + "; .Lfirst: retq; .Lsecond: retq; " + ENTRIES + "; .quad two", "jumps to *%rax"),
+    (BY_TABLE.replace("addq", "subq") + "; .Lfirst: retq; .Lsecond: retq; " + ENTRIES, "jumps to *%rax"),
+    (BY_TABLE.replace(",4)", ",8)") + "; .Lfirst: retq; .Lsecond: retq; " + ENTRIES, "jumps to *%rax"),
+    (BY_TABLE.replace("addq", "1: addq") + "; .Lfirst: jmp 1b; .Lsecond: retq; " + ENTRIES, "jumps to *%rax"),
+    ("leaq .Lother(%rip), %rsi; movslq (%rsi,%rax,4), %rax; addq %rsi, %rax; jmpq *%rax; .Lfirst: retq; .Lsecond: retq; " + ENTRIES + "; .section .rodata.two,\"a\",@progbits; .Lother: .long 0", "jumps to *%rax"),
     ("andq $-32, %rsp; retq", "computes its stack pointer"),
     ("leaq -8(%rsp), %rsp; retq", "computes its stack pointer"),
     ("movq %rbp, %rsp; retq", "computes its stack pointer"),
