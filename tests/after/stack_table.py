@@ -1,5 +1,5 @@
 """The table of docs/BENCHMARKS.md under "Stack" is what bench/stack.sh prints of the archive and the program that were built, so a call whose stack has grown
-is told here; and each export, called on a painted stack (tests/stack/seen.c), goes as deep as the table says and no deeper. Needs the crates proved
+is told here; and each export, called on a painted stack (tests/stack/seen.c), goes as deep as the table says, which counts in words of 8 bytes, and no deeper. Needs the crates proved
 (after `rt ci`)."""
 
 import pathlib
@@ -11,6 +11,7 @@ TOP = pathlib.Path(__file__).resolve().parents[2]
 sys.dont_write_bytecode = True
 PAGE = TOP / "docs" / "BENCHMARKS.md"
 HEADER = TOP / "include" / "tsaghnobir.h"
+WORD = 8  # a figure is whole words: of the lowest word a call may write a half alone
 # what the header tells of the stack: of most calls, of the one that clamps ends, of the one that cuts a copy into pieces, and of those that hold a curve
 MOST = 304
 HOLDERS = {"tsb_remove", "tsb_compact", "tsb_read_record", "tsb_read_job", "tsb_feed_end"}
@@ -42,7 +43,7 @@ def main():
     seen = {}
     for line in output_of(TOP / "examples" / "c" / "build.sh", "run", "seen", TOP / "tests" / "stack" / "seen.c"):
         name, depth = line.split()
-        seen[name] = max(int(depth), seen.get(name, 0))
+        seen[name] = max(-(-int(depth) // WORD) * WORD, seen.get(name, 0))
     exports = sorted(set(re.findall(r"\b(tsb_\w+)\(", HEADER.read_text(encoding="utf-8"))))
     for name in exports:
         if told.get(name) != seen.get(name):
