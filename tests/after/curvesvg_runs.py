@@ -134,7 +134,7 @@ def runs(words):
 def comparison_is_blind(chosen, answers):
     """Where a wrong program would pass: one that prints a fixed text, no newline, or every place one too far."""
     yield from passing_fixed(runs, ("", NO_BYTES, TEXT_B))
-    if unnoticed(chosen, answers, [answer[:-1] for answer in answers], len(answers)):
+    if unnoticed(chosen, answers, [answer[:-1] for answer in answers], len(answers) - 1):  # on a full device there is no newline to leave out
         yield "a program that prints no newline would pass"
     if unnoticed(chosen, answers, farther(answers), 150):
         yield "a program that tells every place one too far would pass"
