@@ -18,7 +18,14 @@ fn write_text(out: &mut Stdout, bytes: &[u8], text: &[u8])
 }
 
 // Reads a record into places for the longest one, and writes its text.
-fn draw(out: &mut Stdout, bytes: &[u8], knots: &mut [u16], xs: &mut [i32], ys: &mut [i32], text: &mut [u8])
+fn draw(
+    out: &mut Stdout,
+    bytes: &[u8],
+    knots: &mut [u16],
+    xs: &mut [i32],
+    ys: &mut [i32],
+    text: &mut [u8],
+)
     requires { Places (lists knots.old xs.old ys.old) text.old }
 {
     let n = svg_text::put_text(bytes, knots, xs, ys, text);
