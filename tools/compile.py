@@ -26,9 +26,9 @@ def left_by_gate(below):
     return all(not library(one).with_name("stamp").exists() and crates.is_newer(library(one), [one]) for one in below)
 
 
-def words(crate, below, made, toolchain):
+def words(kit, crate, below, made, toolchain):
     """The command that proves the crate over the libraries below it and compiles it."""
-    kit, stands_on = program.kit(), crates.listed()[crate]
+    stands_on = crates.listed()[crate]
     is_program = (program.TOP / "crates" / crate / "src" / "main.rt").is_file()
     yield from (kit / "bin" / "rattle", "build", "--crate-name", crate, "src/main.rt" if is_program else "src/lib.rt")
     yield from ("--extern", "std=%s" % (kit / "rlibs" / "std.rlib"), "-L", "dependency=%s" % (kit / "rlibs"))
@@ -48,13 +48,13 @@ def compiled(crate, made, toolchain=None):
     every = crates.under(crate)
     if crates.is_newer(made, every):
         return 0
-    folder, below = program.TOP / "crates" / crate, every[:-1]
+    kit, folder, below = program.kit(), program.TOP / "crates" / crate, every[:-1]
     if not left_by_gate(below):
         checked = subprocess.run(["rt", "check"], cwd=folder, stdout=sys.stderr)
         if checked.returncode:
             return checked.returncode
     made.parent.mkdir(parents=True, exist_ok=True)
-    ran = subprocess.run([str(word) for word in words(crate, below, made, toolchain)], cwd=folder, stdout=subprocess.PIPE, stderr=subprocess.STDOUT, text=True)
+    ran = subprocess.run([str(word) for word in words(kit, crate, below, made, toolchain)], cwd=folder, stdout=subprocess.PIPE, stderr=subprocess.STDOUT, text=True)
     if ran.returncode:
         sys.stderr.write(ran.stdout)
     return ran.returncode

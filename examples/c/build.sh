@@ -15,7 +15,8 @@ fi
 name=${1-tour}
 if [ $# -ge 2 ]; then shift; else set -- examples/c/tour.c; fi
 
-kit=$(dirname "$(rt doc)")
+guide=$(rt doc)
+kit=$(dirname "$guide")
 archive=target/staticlib/libtsaghnobir.a
 tools/archive.sh
 mkdir -p target/c

@@ -130,9 +130,10 @@ def left(folder):
     assert compiled(folder, "none", "made/none.a")[:2] == (1, "") and compiled(folder, "door")[:2] == (1, ""), "words that it does not know"
     (folder.kit / "rt").unlink()
     (folder.top / "unproved").unlink()
-    folder.change(folder.source("low"), 10)
-    status, begun_by, said = compiled(folder, *ARCHIVE)
-    assert (status, begun_by) == (1, "") and "not on the PATH" in said, said
+    for at in (10, 99):
+        folder.change(folder.source("low"), at)
+        status, begun_by, said = compiled(folder, *ARCHIVE)
+        assert (status, begun_by) == (1, "") and "not on the PATH" in said and "Traceback" not in said, said
 
 
-run_parts("tools/compile.py: the words of 2 crates, 9 states of the libraries below, 10 of what is made", words, proved_first, left)
+run_parts("tools/compile.py: the words of 2 crates, 9 states of the libraries below, 11 of what is made", words, proved_first, left)
