@@ -15,7 +15,8 @@ MARKS = r"(?:(?:unfoldable|abbrev|pub(?:\(crate\))?|extern \"C\") )*"
 def declared(crate):
     """The names that a crate's sources, definitions and proofs declare."""
     names = set()
-    for path in sorted((TOP / "crates" / crate).rglob("*")):
+    # what is beside these folders is rt's, which makes it anew while this looks
+    for path in sorted(path for part in ("src", "specs", "proofs") for path in (TOP / "crates" / crate / part).rglob("*")):
         if path.suffix == ".antt":
             pattern = rf"^\s*{MARKS}(?:(?:data|record) )?([^\s(){{}}.;,@\"«»]+)(?: \{{[^}}]*\}})?(?: \(.*\))? :"
         elif path.suffix == ".rt":
