@@ -9,6 +9,10 @@ use lib.Dec.{eqb-suc-zero}
 use lib.ListN.{length}
 use Rattle.refusal.specs.Judging.{unless}
 use Rattle.lent.proofs.SentenceLaws.{over-holds}
+use Rattle.std.specs.Prelude.{Result, Ok}
+use Rattle.refusal.specs.Answers.{number_in, Answers}
+use Rattle.refusal.specs.declared.Refusal.{Refusal}
+use Rattle.refusal.proofs.AnswerLaws.{answers-value}
 use Rattle.curve.specs.Lists.{Lists}
 use Rattle.curve.specs.HandingOver.{room_for, room_number, handed_over, HandsOut}
 use Rattle.curve.specs.Sentences.{KnotsThenXThenY, EachLongEnough, RoomWrong, RoomExactly, SuccessHandsOver, RefusalHandsNothing, DoneOrRefused, CallsEndSo}
@@ -86,21 +90,18 @@ success-hands-over result before r =
 pub refusal-hands-nothing : RefusalHandsNothing
 refusal-hands-nothing number result before h = handed_over-refused number result before (λ e. omega arith)
 
-module _ {A : Type 0} (ComesTo : ℕ → Lists → Type 0) (done : Lists → A) (refused : ℕ → A) (before : Lists) (answer : A) (now : Lists) where
-  either_end : HandsOut ComesTo done refused before answer now → DoneOrRefused ComesTo done refused before answer now
+module _ {A : Type 0} (ComesTo : ℕ → Lists → Type 0) (value : Lists → A) (before : Lists) (answer : Result A Refusal) (now : Lists) where
+  either_end : HandsOut ComesTo value before answer now → DoneOrRefused ComesTo value before answer now
   either_end h = by h.number h.comes_to h.answers h.hands
     where
-      by : (n : ℕ) → ComesTo n h.result → answer ≡ Rattle.refusal.specs.Judging.answered done refused n h.result → now ≡ handed_over n h.result before
-          → DoneOrRefused ComesTo done refused before answer now
-      by zero comes a e = inl (h.result, comes, a, e)
-      by (suc n) comes a e =
-          inr (suc n, h.result, comes, omega arith, a ∙ rw (eqb-suc-zero n), e ∙ rw (eqb-suc-zero n))
+      by : (n : ℕ) → ComesTo n h.result → Answers n (value h.result) answer → now ≡ handed_over n h.result before → DoneOrRefused ComesTo value before answer now
+      by zero comes a e = inl (h.result, comes, answers-value 0 (value h.result) answer a refl, e)
+      by (suc n) comes a e = inr (suc n, h.result, comes, omega arith, a.0, e ∙ rw (eqb-suc-zero n))
 
-  ends-either : DoneOrRefused ComesTo done refused before answer now → HandsOut ComesTo done refused before answer now
-  ends-either (inl d) = rw d.2 (ends-done ComesTo done refused before 0 d.0 d.1 now refl d.3)
+  ends-either : DoneOrRefused ComesTo value before answer now → HandsOut ComesTo value before answer now
+  ends-either (inl d) = rw d.2 (ends-done ComesTo value before 0 d.0 d.1 now refl d.3)
   ends-either (inr r) =
-      let some : r.0 ≡ 0 → ⊥ = λ e. omega (arith, r.3) in
-      rw (r.4, r.5) (ends-untouched ComesTo done refused before r.0 r.1 r.2 some)
+      let some : r.0 ≡ 0 → ⊥ = λ e. omega (arith, r.3) in rw r.5 (ends-untouched ComesTo value before r.0 r.1 r.2 answer r.4 some)
 
 pub calls-end-so : (A : Type 0) → CallsEndSo A
-calls-end-so A ComesTo done refused before answer now = (either_end ComesTo done refused before answer now, ends-either ComesTo done refused before answer now)
+calls-end-so A ComesTo value before answer now = (either_end ComesTo value before answer now, ends-either ComesTo value before answer now)

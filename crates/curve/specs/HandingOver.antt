@@ -1,7 +1,9 @@
 -- How a call hands a curve out into three lent lists (heading "Numbers of refusal": row 15, and what the lists hold afterwards).
-use Rattle.std.specs.Prelude.{Bool, ◌&&◌, ◌≡◌, ℕ, leb, length}
-use Rattle.refusal.specs.Judging.{unless, answered}
+use Rattle.std.specs.Prelude.{Bool, ◌&&◌, Result, ◌≡◌, ℕ, leb, length}
+use Rattle.refusal.specs.Answers.{Answers}
+use Rattle.refusal.specs.Judging.{unless}
 use Rattle.refusal.specs.Numbers.{accepted, room_refused}
+use Rattle.refusal.specs.declared.Refusal.{Refusal}
 use Rattle.lent.specs.Lent.{after}
 use Rattle.curve.specs.Lists.{Lists, lists}
 
@@ -22,9 +24,9 @@ handed_over number result before =
     lists (after number result.knots before.knots) (after number result.xs before.xs) (after number result.ys before.ys)
 
 -- a call that comes to a number and a curve, by cases: its answer and the lent lists follow from these two
-pub record HandsOut {A : Type 0} (ComesTo : ℕ → Lists → Type 0) (done : Lists → A) (refused : ℕ → A) (before : Lists) (answer : A) (now : Lists) : Type 0 where
+pub record HandsOut {A : Type 0} (ComesTo : ℕ → Lists → Type 0) (value : Lists → A) (before : Lists) (answer : Result A Refusal) (now : Lists) : Type 0 where
   pub number : ℕ
   pub result : Lists
   pub comes_to : ComesTo number result
-  pub answers : answer ≡ answered done refused number result
+  pub answers : Answers number (value result) answer
   pub hands : now ≡ handed_over number result before

@@ -1,5 +1,7 @@
 -- Handing a curve out, in sentences (heading "Numbers of refusal": row 15, and what three lent lists hold afterwards).
-use Rattle.std.specs.Prelude.{true, List, ◌⊎◌, ◌↔◌, ◌≡◌, ℕ, ◌≤◌, ◌<◌, ℤ, length}
+use Rattle.std.specs.Prelude.{true, List, Result, Ok, ◌⊎◌, ◌↔◌, ◌≡◌, ℕ, ◌≤◌, ◌<◌, ℤ, length}
+use Rattle.refusal.specs.Answers.{number_in}
+use Rattle.refusal.specs.declared.Refusal.{Refusal}
 use Rattle.lent.specs.Sentences.{ResultThenRest}
 use Rattle.curve.specs.Lists.{Lists, lists}
 use Rattle.curve.specs.HandingOver.{room_for, room_number, handed_over, HandsOut}
@@ -42,12 +44,12 @@ RefusalHandsNothing = (number : ℕ) (result before : Lists) → 0 < number → 
 
 -- a call by cases ends in one of two ways: it did its work, with a curve at which it arrived and which the lists hold; or it is refused, with its
 -- number, and the lists are as they were
-abbrev pub DoneOrRefused : {A : Type 0} → (ℕ → Lists → Type 0) → (Lists → A) → (ℕ → A) → Lists → A → Lists → Type 0
-DoneOrRefused ComesTo done refused before answer now =
-    ((d : Lists) × ComesTo 0 d × (answer ≡ done d) × (now ≡ handed_over 0 d before))
-    ⊎ ((number : ℕ) × (d : Lists) × ComesTo number d × (0 < number) × (answer ≡ refused number) × (now ≡ before))
+abbrev pub DoneOrRefused : {A : Type 0} → (ℕ → Lists → Type 0) → (Lists → A) → Lists → Result A Refusal → Lists → Type 0
+DoneOrRefused ComesTo value before answer now =
+    ((d : Lists) × ComesTo 0 d × (answer ≡ Ok (value d)) × (now ≡ handed_over 0 d before))
+    ⊎ ((number : ℕ) × (d : Lists) × ComesTo number d × (0 < number) × (number_in answer ≡ number) × (now ≡ before))
 
 abbrev pub CallsEndSo : Type 0 → Type 1
 CallsEndSo A =
-    (ComesTo : ℕ → Lists → Type 0) (done : Lists → A) (refused : ℕ → A) (before : Lists) (answer : A) (now : Lists)
-    → HandsOut ComesTo done refused before answer now ↔ DoneOrRefused ComesTo done refused before answer now
+    (ComesTo : ℕ → Lists → Type 0) (value : Lists → A) (before : Lists) (answer : Result A Refusal) (now : Lists)
+    → HandsOut ComesTo value before answer now ↔ DoneOrRefused ComesTo value before answer now

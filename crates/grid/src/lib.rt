@@ -10,8 +10,10 @@ mod repeats;
 
 ghost use Rattle.std.specs.Prelude.{◌≡◌};
 ghost use Rattle.grid.specs.Check.{check_number};
+ghost use Rattle.refusal.specs.Answers.{number_in};
 
 pub use range::{on_grid, on_grid_wide, radius_ok, range_ok, sides_ok};
+use refusal::Refusal;
 
 pub const POINTS_MOST: usize = 1024;
 
@@ -53,31 +55,31 @@ pub const PAIR_BYTES_MOST: usize = 2 * (1 + NUMBER_BYTES_MOST);
 
 pub const SVG_MOST: usize = 1 + PAIR_BYTES_MOST + (POINTS_MOST - 1) * (2 + PAIR_BYTES_MOST);
 
-// 0, or the lowest of the numbers 1 to 7 that applies.
-pub fn check(degree: u32, knots: &[u16], xs: &[i32], ys: &[i32]) -> u32
-    ensures answer { result ≡ check_number degree knots.now xs.now ys.now }
+// Nothing, or the refusal with the lowest of the numbers 1 to 7 that applies.
+pub fn check(degree: u32, knots: &[u16], xs: &[i32], ys: &[i32]) -> Result<(), Refusal>
+    ensures answer { number_in result ≡ check_number degree knots.now xs.now ys.now }
 {
     if !counts::degree_ok(degree) {
-        return refusal::DEGREE;
+        return Err(Refusal::Degree);
     }
     let m = degree as usize;
     if !counts::point_count_ok(m, xs, ys) {
-        return refusal::POINT_COUNT;
+        return Err(Refusal::PointCount);
     }
     if !counts::knot_count_ok(m, knots, xs) {
-        return refusal::KNOT_COUNT;
+        return Err(Refusal::KnotCount);
     }
     if !order::knot_order_ok(knots) {
-        return refusal::KNOT_ORDER;
+        return Err(Refusal::KnotOrder);
     }
     if !ends::ends_ok(m, knots) {
-        return refusal::ENDS;
+        return Err(Refusal::Ends);
     }
     if !repeats::repeats_ok(m, knots) {
-        return refusal::REPEATS;
+        return Err(Refusal::Repeats);
     }
     if !range::range_ok(xs, ys) {
-        return refusal::RANGE;
+        return Err(Refusal::Range);
     }
-    refusal::ACCEPTED
+    Ok(())
 }

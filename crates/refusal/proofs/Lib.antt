@@ -1,4 +1,5 @@
 -- Laws of judging.
 pub mod JudgingLaws
 pub mod ChainLaws
+pub mod AnswerLaws
 mod Controls

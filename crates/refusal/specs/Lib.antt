@@ -2,3 +2,4 @@
 pub mod Numbers
 pub mod Judging
 pub mod Chain
+pub mod Answers

@@ -1,50 +1,57 @@
-// The numbers of refusal, for code. Their meaning stands in specs/Numbers.antt, name for name.
+// Why a call refuses, and the number that C sees. What a refusal means stands in specs/Numbers.antt, beside its number.
 #![tactic(auto)]
 
-pub const ACCEPTED: u32 = 0;
+ghost use Rattle.std.specs.Prelude.{◌≡◌};
+ghost use Rattle.refusal.specs.Answers.{number_of, number_in, required};
 
-pub const DEGREE: u32 = 1;
+#[derive(Clone, Copy, PartialEq, Eq, Debug)]
+pub enum Refusal {
+    Degree = 1,
+    PointCount = 2,
+    KnotCount = 3,
+    KnotOrder = 4,
+    Ends = 5,
+    Repeats = 6,
+    Range = 7,
+    Parameter = 8,
+    Insertion = 9,
+    Full = 10,
+    NotWhole = 11,
+    NotInner = 12,
+    NotRemovable = 13,
+    Rectangle = 14,
+    Room = 15,
+    Ended = 16,
+    SplinePoints = 17,
+    JoinedRange = 18,
+    Tag = 19,
+    Length = 20,
+    LeftOver = 21,
+    Radius = 22,
+    Unclamp = 23,
+}
 
-pub const POINT_COUNT: u32 = 2;
+impl From<Refusal> for u32 {
+    ghost from_gives = { λ refusal number. number ≡ number_of refusal };
 
-pub const KNOT_COUNT: u32 = 3;
+    fn from(refusal: Refusal) -> u32 {
+        refusal as u32
+    }
+}
 
-pub const KNOT_ORDER: u32 = 4;
+// The number of an answer: 0 where nothing is refused.
+pub fn number<T: Drop>(answer: Result<T, Refusal>) -> u32
+    ensures answer { result ≡ number_in answer }
+{
+    match answer {
+        Ok(_) => 0,
+        Err(refusal) => refusal.into(),
+    }
+}
 
-pub const ENDS: u32 = 5;
-
-pub const REPEATS: u32 = 6;
-
-pub const RANGE: u32 = 7;
-
-pub const PARAMETER: u32 = 8;
-
-pub const INSERTION: u32 = 9;
-
-pub const FULL: u32 = 10;
-
-pub const NOT_WHOLE: u32 = 11;
-
-pub const NOT_INNER: u32 = 12;
-
-pub const NOT_REMOVABLE: u32 = 13;
-
-pub const RECTANGLE: u32 = 14;
-
-pub const ROOM: u32 = 15;
-
-pub const ENDED: u32 = 16;
-
-pub const SPLINE_POINTS: u32 = 17;
-
-pub const JOINED_RANGE: u32 = 18;
-
-pub const TAG: u32 = 19;
-
-pub const LENGTH: u32 = 20;
-
-pub const LEFT_OVER: u32 = 21;
-
-pub const RADIUS: u32 = 22;
-
-pub const UNCLAMP: u32 = 23;
+// `Ok` where a test passes, else the refusal that it stands for.
+pub fn require(fine: bool, refusal: Refusal) -> Result<(), Refusal>
+    ensures answer { result ≡ required fine refusal }
+{
+    if fine { Ok(()) } else { Err(refusal) }
+}

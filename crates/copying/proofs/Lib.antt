@@ -1,2 +1,0 @@
--- Laws of the copy loop.
-pub mod CopyLaws
