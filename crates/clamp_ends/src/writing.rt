@@ -27,7 +27,7 @@ fn write_points(m: usize, knots: &[u16], ps: &[i32], out: &mut [i32])
     requires { Carries m knots.now ps.now × (length ps.now ≤ length out.old) }
     ensures result { out.new ≡ over (clamped_points m knots.now ps.now) out.old }
 {
-    copying::copy_coordinates(ps, out);
+    copying::copy_into(ps, out);
     let mut k = 0;
     while k + 1 < m {
         out[k] = point_at(m, knots, ps, k);
@@ -42,7 +42,7 @@ fn write_knots(m: usize, knots: &[u16], count: usize, out: &mut [u16])
     requires { (m < count) × (length knots.now ≡ count + m + 1) × (length knots.now ≤ length out.old) }
     ensures result { out.new ≡ over (entries (clamped_knot m knots.now count) (length knots.now)) out.old }
 {
-    copying::copy_knots(knots, out);
+    copying::copy_into(knots, out);
     let first = knots[m];
     let last = knots[count];
     let mut k = 0;

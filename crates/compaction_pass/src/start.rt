@@ -31,8 +31,8 @@ pub(crate) fn copy_first(
 {
     let first = first_points(m, knots);
     let ends = first + m + 1;
-    copying::copy_knots(&knots[..ends], front_knots);
-    copying::copy_coordinates(&xs[..first], front_xs);
-    copying::copy_coordinates(&ys[..first], front_ys);
+    copying::copy_into(&knots[..ends], front_knots);
+    copying::copy_into(&xs[..first], front_xs);
+    copying::copy_into(&ys[..first], front_ys);
     first
 }

@@ -119,14 +119,14 @@ pub fn insert_points(m: usize, knots: &[u16], ps: &[i32], v: u16, i: usize, out:
     ensures result { out.new ≡ over (inserted_points m knots.now ps.now v) out.old }
 {
     let front = i + 1 - m;
-    copying::copy_coordinates(&ps[..front], out);
+    copying::copy_into(&ps[..front], out);
     let mut j = front;
     while j <= i {
         out[j] = quotient_at(m, knots, ps, v, j);
         j += 1;
     }
     let behind = i + 1;
-    copying::copy_coordinates(&ps[behind - 1..], &mut out[behind..]);
+    copying::copy_into(&ps[behind - 1..], &mut out[behind..]);
 }
 
 // The knots with v among them, behind the first `at` of them, written to `out`.
@@ -135,7 +135,7 @@ pub fn insert_value(knots: &[u16], v: u16, at: usize, out: &mut [u16])
     requires knots_in_bounds { length knots.now + 1 ≤ length out.old }
     ensures result { out.new ≡ over (inserted_knots knots.now v) out.old }
 {
-    copying::copy_knots(&knots[..at], out);
+    copying::copy_into(&knots[..at], out);
     out[at] = v;
-    copying::copy_knots(&knots[at..], &mut out[at + 1..]);
+    copying::copy_into(&knots[at..], &mut out[at + 1..]);
 }

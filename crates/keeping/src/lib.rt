@@ -14,7 +14,7 @@ pub fn keep(received: usize, burst: &[u8], work: &mut [u8]) -> usize
     if received > places {
         return received;
     }
-    copying::copy_bytes(burst, &mut work[received..]);
+    copying::copy_into(burst, &mut work[received..]);
     if burst.len() > places - received {
         return places + 1;
     }

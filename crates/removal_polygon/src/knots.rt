@@ -7,6 +7,6 @@ pub(crate) fn remove_at(knots: &[u16], at: usize, out: &mut [u16])
     requires out_len { length out.old + 1 ≡ length knots.now }
     ensures result { out.new ≡ take at knots.now ++ drop (at + 1) knots.now }
 {
-    copying::copy_knots(&knots[..at], out);
-    copying::copy_knots(&knots[at + 1..], &mut out[at..]);
+    copying::copy_into(&knots[..at], out);
+    copying::copy_into(&knots[at + 1..], &mut out[at..]);
 }

@@ -72,6 +72,6 @@ pub(crate) fn copy_sides(ps: &[i32], start: usize, far: usize, out: &mut [i32])
     requires out_len { length out.old + 1 ≡ length ps.now }
     ensures result { BetweenSides ps.now start far out.old out.new }
 {
-    copying::copy_coordinates(&ps[..start], out);
-    copying::copy_coordinates(&ps[far + 1..], &mut out[far..]);
+    copying::copy_into(&ps[..start], out);
+    copying::copy_into(&ps[far + 1..], &mut out[far..]);
 }

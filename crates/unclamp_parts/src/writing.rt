@@ -23,7 +23,7 @@ pub fn write_knots(m: usize, knots: &[u16], count: usize, out: &mut [u16])
     requires knots_in_bounds { length knots.now ≤ length out.old }
     ensures result { out.new ≡ over (entries (open_knot knots.now count) (length knots.now)) out.old }
 {
-    copying::copy_knots(&knots[..count + 1], out);
+    copying::copy_into(&knots[..count + 1], out);
     let mut k = 1;
     while k <= m {
         out[count + k] = new_knot(m, knots, count, k);
@@ -53,7 +53,7 @@ pub fn write_points(m: usize, knots: &[u16], ps: &[i32], out: &mut [i32])
 {
     let count = ps.len();
     let front = count + 1 - m;
-    copying::copy_coordinates(&ps[..front], out);
+    copying::copy_into(&ps[..front], out);
     let mut j = front;
     while j < count {
         out[j] = new_point(m, knots, ps, count - 1 - j);

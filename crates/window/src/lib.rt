@@ -46,9 +46,9 @@ fn remove_by_axes(
     if !removal_walk::remove_axis(m, ks, ys, v, m, py) {
         return false;
     }
-    copying::copy_knots(ks, knots);
-    copying::copy_coordinates(px, xs);
-    copying::copy_coordinates(py, ys);
+    copying::copy_into(ks, knots);
+    copying::copy_into(px, xs);
+    copying::copy_into(py, ys);
     true
 }
 

@@ -28,15 +28,15 @@ pub overflow_sub-front : goal.overflow_sub-front
 overflow_sub-front c = let a = c.args in
     omega (arith, span-least a.m a.knots.now a.ps.now a.v c.requires.insertable)
 
-pub slice_bounds-copy_coordinates-end : goal.slice_bounds-copy_coordinates-end
-slice_bounds-copy_coordinates-end c = let a = c.args in
-    sym (length-take-le (a.i + 1 - a.m) a.ps.now (omega (arith, within (goal.at.slice_bounds-copy_coordinates-end c).Start, c.requires.insertable.degree)))
+pub slice_bounds-copy_into-end : goal.slice_bounds-copy_into-end
+slice_bounds-copy_into-end c = let a = c.args in
+    sym (length-take-le (a.i + 1 - a.m) a.ps.now (omega (arith, within (goal.at.slice_bounds-copy_into-end c).Start, c.requires.insertable.degree)))
 
 -- the points in front are stored
-front-stored : (c : After-out-1) → Stored (inserted_points c.args.m c.args.knots.now c.args.ps.now c.args.v) c.args.out.now c.copy_coordinates.new.to (c.args.i + 1 - c.args.m)
+front-stored : (c : After-out-1) → Stored (inserted_points c.args.m c.args.knots.now c.args.ps.now c.args.v) c.args.out.now c.copy_into.new.to (c.args.i + 1 - c.args.m)
 front-stored c =
     let a = c.args in
-    points-stored a.m a.knots.now a.ps.now a.v a.i c.requires.insertable c.requires.i_value a.out.now c.copy_coordinates.new.to c.requires.ps_in_bounds c.copy_coordinates.ensures.result
+    points-stored a.m a.knots.now a.ps.now a.v a.i c.requires.insertable c.requires.i_value a.out.now c.copy_into.new.to c.requires.ps_in_bounds c.copy_into.ensures.result
 
 pub loop-j-init : goal.loop-j-init
 loop-j-init c = (omega arith, omega (arith, c.requires.insertable.degree), stored-anew (front-stored c))
@@ -70,23 +70,23 @@ loop-j-preserved c = let a = c.args in
 -- the points in front and the quotients are stored
 quotients-stored : (c : After-loop-j) → Stored (inserted_points c.args.m c.args.knots.now c.args.ps.now c.args.v) c.args.out.now c.loop-j.out (c.args.i + 1)
 quotients-stored c =
-    let front-stored : Stored (inserted_points c.args.m c.args.knots.now c.args.ps.now c.args.v) c.args.out.now c.copy_coordinates.new.to (c.args.i + 1 - c.args.m) = let a = c.args in
-    points-stored a.m a.knots.now a.ps.now a.v a.i c.requires.insertable c.requires.i_value a.out.now c.copy_coordinates.new.to c.requires.ps_in_bounds c.copy_coordinates.ensures.result in
+    let front-stored : Stored (inserted_points c.args.m c.args.knots.now c.args.ps.now c.args.v) c.args.out.now c.copy_into.new.to (c.args.i + 1 - c.args.m) = let a = c.args in
+    points-stored a.m a.knots.now a.ps.now a.v a.i c.requires.insertable c.requires.i_value a.out.now c.copy_into.new.to c.requires.ps_in_bounds c.copy_into.ensures.result in
     let l = c.loop-j in let ends : l.j ≡ c.args.i + 1 = omega (arith, l.invariant.1, c.loop-j-test.false) in
     rw ends at (stored-since front-stored l.invariant.0 l.invariant.2)
 
-pub slice_bounds-copy_coordinates-count : goal.slice_bounds-copy_coordinates-count
-slice_bounds-copy_coordinates-count c = omega (arith, within (goal.at.slice_bounds-copy_coordinates-count c).Start)
+pub slice_bounds-copy_into-count : goal.slice_bounds-copy_into-count
+slice_bounds-copy_into-count c = omega (arith, within (goal.at.slice_bounds-copy_into-count c).Start)
 
-pub slice_bounds-copy_coordinates-start : goal.slice_bounds-copy_coordinates-start
-slice_bounds-copy_coordinates-start c = omega (arith, within (goal.at.slice_bounds-copy_coordinates-start c).Start)
+pub slice_bounds-copy_into-start : goal.slice_bounds-copy_into-start
+slice_bounds-copy_into-start c = omega (arith, within (goal.at.slice_bounds-copy_into-start c).Start)
 
 pub returns : goal.returns
 returns c = record {
   result = let a = c.args in
       rest-copied (inserted_points a.m a.knots.now a.ps.now a.v) a.out.now (take (length a.ps.now - (a.i + 1 - 1)) (drop (a.i + 1 - 1) a.ps.now))
-      c.loop-j.out c.copy_coordinates-2.new.to (a.i + 1)
+      c.loop-j.out c.copy_into-2.new.to (a.i + 1)
       (quotients-stored (goal.at.returns c).After-loop-j)
       (points-rest a.m a.knots.now a.ps.now a.v a.i c.requires.insertable c.requires.i_value (a.i + 1) (omega arith))
-      c.copy_coordinates-2.ensures.result;
+      c.copy_into-2.ensures.result;
 }

@@ -16,8 +16,8 @@ use Rattle.insertion_parts.proofs.insert_value.Goals as goal
 within : (s : Start) → s.args.at ≤ length s.args.knots.now
 within s = omega (arith, knots_up_to-length s.args.v s.args.knots.now, s.requires.at_value)
 
-pub slice_bounds-copy_knots-end : goal.slice_bounds-copy_knots-end
-slice_bounds-copy_knots-end c = sym (length-take-le c.args.at c.args.knots.now (within (goal.at.slice_bounds-copy_knots-end c).Start))
+pub slice_bounds-copy_into-end : goal.slice_bounds-copy_into-end
+slice_bounds-copy_into-end c = sym (length-take-le c.args.at c.args.knots.now (within (goal.at.slice_bounds-copy_into-end c).Start))
 
 pub offset_bounds-out-at : goal.offset_bounds-out-at
 offset_bounds-out-at c = omega (arith, within (goal.at.offset_bounds-out-at c).Start, c.requires.knots_in_bounds)
@@ -28,11 +28,11 @@ bounds-out-at c = omega (arith, within (goal.at.bounds-out-at c).Start, c.requir
 pub offset_bounds-knots-at : goal.offset_bounds-knots-at
 offset_bounds-knots-at c = omega (arith, within (goal.at.offset_bounds-knots-at c).Start, c.requires.knots_in_bounds)
 
-pub slice_bounds-copy_knots-count : goal.slice_bounds-copy_knots-count
-slice_bounds-copy_knots-count c = within (goal.at.slice_bounds-copy_knots-count c).Start
+pub slice_bounds-copy_into-count : goal.slice_bounds-copy_into-count
+slice_bounds-copy_into-count c = within (goal.at.slice_bounds-copy_into-count c).Start
 
-pub slice_bounds-copy_knots-start : goal.slice_bounds-copy_knots-start
-slice_bounds-copy_knots-start c = within (goal.at.slice_bounds-copy_knots-start c).Start
+pub slice_bounds-copy_into-start : goal.slice_bounds-copy_into-start
+slice_bounds-copy_into-start c = within (goal.at.slice_bounds-copy_into-start c).Start
 
 pub overflow_add-at : goal.overflow_add-at
 overflow_add-at c = omega (arith, within (goal.at.overflow_add-at c).Start, c.requires.knots_in_bounds)
@@ -41,23 +41,23 @@ pub offset_bounds-out-at-2 : goal.offset_bounds-out-at-2
 offset_bounds-out-at-2 c = omega (arith, within (goal.at.offset_bounds-out-at-2 c).Start, c.requires.knots_in_bounds)
 
 -- v is stored, and the list is as long as it was
-stored : (c : After-slice_known-2-1) → Stored (inserted_knots c.args.knots.now c.args.v) c.args.out.now (set c.copy_knots.new.to c.args.at c.args.v) (c.args.at + 1)
+stored : (c : After-slice_known-2-1) → Stored (inserted_knots c.args.knots.now c.args.v) c.args.out.now (set c.copy_into.new.to c.args.at c.args.v) (c.args.at + 1)
 stored c =
     let a = c.args in
-    let first = c.copy_knots in value-stored a.knots.now a.v a.at c.requires.at_value a.out.now first.new.to c.requires.knots_in_bounds first.ensures.result
+    let first = c.copy_into in value-stored a.knots.now a.v a.at c.requires.at_value a.out.now first.new.to c.requires.knots_in_bounds first.ensures.result
 
-pub slice_bounds-copy_knots-count-2 : goal.slice_bounds-copy_knots-count-2
-slice_bounds-copy_knots-count-2 c = ends-inside (stored (goal.at.slice_bounds-copy_knots-count-2 c).After-slice_known-2-1)
+pub slice_bounds-copy_into-count-2 : goal.slice_bounds-copy_into-count-2
+slice_bounds-copy_into-count-2 c = ends-inside (stored (goal.at.slice_bounds-copy_into-count-2 c).After-slice_known-2-1)
 
-pub slice_bounds-copy_knots-start-2 : goal.slice_bounds-copy_knots-start-2
-slice_bounds-copy_knots-start-2 c = ends-inside (stored (goal.at.slice_bounds-copy_knots-start-2 c).After-slice_known-2-1)
+pub slice_bounds-copy_into-start-2 : goal.slice_bounds-copy_into-start-2
+slice_bounds-copy_into-start-2 c = ends-inside (stored (goal.at.slice_bounds-copy_into-start-2 c).After-slice_known-2-1)
 
 pub returns : goal.returns
 returns c = record {
   result = let a = c.args in
-      let first = c.copy_knots in rest-copied (inserted_knots a.knots.now a.v) a.out.now (take (length a.knots.now - a.at) (drop a.at a.knots.now))
-      (set first.new.to a.at a.v) c.copy_knots-2.new.to (a.at + 1)
+      let first = c.copy_into in rest-copied (inserted_knots a.knots.now a.v) a.out.now (take (length a.knots.now - a.at) (drop a.at a.knots.now))
+      (set first.new.to a.at a.v) c.copy_into-2.new.to (a.at + 1)
       (stored (goal.at.returns c).After-slice_known-2-1)
       (value-rest a.knots.now a.v a.at c.requires.at_value)
-      c.copy_knots-2.ensures.result;
+      c.copy_into-2.ensures.result;
 }

@@ -10,10 +10,10 @@ pub returns-then-burst-places : goal.returns-then-burst-places
 returns-then-burst-places c =
     let a = c.args in
     let inside = c.if-received-places.false in
-    let copied = c.copy_bytes in record { count = counted-over a.received a.burst.now a.work.now inside c.if-burst-places.true; result = kept-behind a.received a.burst.now a.work.now inside copied.new.to copied.ensures.result }
+    let copied = c.copy_into in record { count = counted-over a.received a.burst.now a.work.now inside c.if-burst-places.true; result = kept-behind a.received a.burst.now a.work.now inside copied.new.to copied.ensures.result }
 
 pub returns : goal.returns
 returns c =
     let a = c.args in
     let inside = c.if-received-places.false in
-    let copied = c.copy_bytes in record { count = counted-all a.received a.burst.now a.work.now inside c.if-burst-places.false; result = kept-behind a.received a.burst.now a.work.now inside copied.new.to copied.ensures.result }
+    let copied = c.copy_into in record { count = counted-all a.received a.burst.now a.work.now inside c.if-burst-places.false; result = kept-behind a.received a.burst.now a.work.now inside copied.new.to copied.ensures.result }

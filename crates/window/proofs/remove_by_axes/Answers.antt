@@ -20,7 +20,7 @@ pub returns : goal.returns
 returns c = record {
   answer = let a = c.args in
       let w = c.requires.window in
-      let x = c.remove_axis in let y = c.remove_axis-2 in let k = c.copy_knots in let cx = c.copy_coordinates in let cy = c.copy_coordinates-2 in let on_x = rw c.requires.ks_value at (x.ensures.answer.found (c.if-not-remove_axis.false)) in
+      let x = c.remove_axis in let y = c.remove_axis-2 in let k = c.copy_into in let cx = c.copy_into-2 in let cy = c.copy_into-3 in let on_x = rw c.requires.ks_value at (x.ensures.answer.found (c.if-not-remove_axis.false)) in
       let on_y = rw c.requires.ks_value at (y.ensures.answer.found (c.if-not-remove_axis-2.false)) in
       let ck = rw c.requires.ks_value at k.ensures.result in
       closed-outcome a.m a.knots.now a.xs.now a.ys.now x.new.out y.new.out on_x on_y k.new.to cx.new.to cy.new.to

@@ -19,8 +19,8 @@ pub loop-k-init : goal.loop-k-init
 loop-k-init c = let a = c.args in
     let us = entries (clamped_knot a.m a.knots.now a.count) (length a.knots.now) in
     let k = clamped (goal.at.loop-k-init c).Start in
-    mended-none 0 us a.knots.now a.out.now c.copy_knots.new.to (c.requires.1 ∙ sym k.long)
-    (omega (arith, k.long, c.requires.1, c.requires.2)) c.copy_knots.ensures.result
+    mended-none 0 us a.knots.now a.out.now c.copy_into.new.to (c.requires.1 ∙ sym k.long)
+    (omega (arith, k.long, c.requires.1, c.requires.2)) c.copy_into.ensures.result
     a.m (omega (arith, k.long)) (knots-kept a.m a.knots.now a.count us k)
 
 pub loop-k-preserved : goal.loop-k-preserved
@@ -34,7 +34,7 @@ loop-k-preserved c = let a = c.args in
 pub returns : goal.returns
 returns c = record {
   result = let a = c.args in
-      let copy = c.copy_knots in let k = clamped (goal.at.returns c).Start in
+      let copy = c.copy_into in let k = clamped (goal.at.returns c).Start in
       mended-all 0 (entries (clamped_knot a.m a.knots.now a.count) (length a.knots.now)) a.knots.now a.out.now copy.new.to
       (c.requires.1 ∙ sym k.long) (omega (arith, k.long, c.requires.1, c.requires.2)) copy.ensures.result c.loop-k.invariant c.loop-k-test.false;
 }

@@ -19,8 +19,8 @@ long s = let a = s.args in points-length a.m a.knots.now a.ps.now
 
 pub loop-k-init : goal.loop-k-init
 loop-k-init c = let a = c.args in
-    mended-none (pos 0) (clamped_points a.m a.knots.now a.ps.now) a.ps.now a.out.now c.copy_coordinates.new.to
-    (sym (long (goal.at.loop-k-init c).Start)) (omega (arith, long (goal.at.loop-k-init c).Start, c.requires.1)) c.copy_coordinates.ensures.result
+    mended-none (pos 0) (clamped_points a.m a.knots.now a.ps.now) a.ps.now a.out.now c.copy_into.new.to
+    (sym (long (goal.at.loop-k-init c).Start)) (omega (arith, long (goal.at.loop-k-init c).Start, c.requires.1)) c.copy_into.ensures.result
     (a.m - 1) (omega (arith, long (goal.at.loop-k-init c).Start, c.requires.0.enough)) (λ j l u. points_kept a.m a.knots.now a.ps.now j l (omega (arith, u, long (goal.at.loop-k-init c).Start)))
 
 pub loop-k-preserved : goal.loop-k-preserved
@@ -36,6 +36,6 @@ loop-k-preserved c = let a = c.args in
 pub returns : goal.returns
 returns c = record {
   result = let a = c.args in
-      let copy = c.copy_coordinates in mended-all (pos 0) (clamped_points a.m a.knots.now a.ps.now) a.ps.now a.out.now copy.new.to
+      let copy = c.copy_into in mended-all (pos 0) (clamped_points a.m a.knots.now a.ps.now) a.ps.now a.out.now copy.new.to
       (sym (long (goal.at.returns c).Start)) (omega (arith, long (goal.at.returns c).Start, c.requires.1)) copy.ensures.result c.loop-k.invariant (omega (arith, c.loop-k-test.false));
 }

@@ -22,8 +22,8 @@ overflow_add-ends-2 c = let a = c.args in
     let z = sizes-of-passes a.m a.knots.now a.xs.now a.ys.now c.requires in
     let f = c.first_points-first in omega (arith, z.most, z.degree-most, points-reach a.m a.knots.now a.xs.now a.ys.now c.requires f.result f.ensures.answer)
 
-pub slice_bounds-copy_knots-end : goal.slice_bounds-copy_knots-end
-slice_bounds-copy_knots-end c = let a = c.args in
+pub slice_bounds-copy_into-end : goal.slice_bounds-copy_into-end
+slice_bounds-copy_into-end c = let a = c.args in
     let f = c.first_points-first in sym (length-take-le (f.result + a.m + 1) a.knots.now (knots-reach a.m a.knots.now a.xs.now a.ys.now c.requires f.result f.ensures.answer))
 
 pub slice_bounds-copy_coordinates-end : goal.slice_bounds-copy_coordinates-end

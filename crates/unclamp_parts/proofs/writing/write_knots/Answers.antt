@@ -12,7 +12,7 @@ use Rattle.unclamp_parts.proofs.writing.write_knots.Goals as goal
 
 pub loop-k-init : goal.loop-k-init
 loop-k-init c = let a = c.args in
-    let first = c.copy_knots in (omega arith, omega arith, stored-anew (knots-stored a.m a.knots.now a.count a.out.now first.new.to c.requires.knots_ending c.requires.knots_in_bounds first.ensures.result))
+    let first = c.copy_into in (omega arith, omega arith, stored-anew (knots-stored a.m a.knots.now a.count a.out.now first.new.to c.requires.knots_ending c.requires.knots_in_bounds first.ensures.result))
 
 pub loop-k-preserved : goal.loop-k-preserved
 loop-k-preserved c = let a = c.args in
@@ -27,7 +27,7 @@ loop-k-preserved c = let a = c.args in
 pub returns : goal.returns
 returns c = record {
   result = let a = c.args in
-      let l = c.loop-k in let first = c.copy_knots in stored-all
+      let l = c.loop-k in let first = c.copy_into in stored-all
       (stored-since (knots-stored a.m a.knots.now a.count a.out.now first.new.to c.requires.knots_ending c.requires.knots_in_bounds first.ensures.result) (omega (arith, l.invariant.0)) l.invariant.2)
       (omega (arith, c.loop-k-test.false, c.requires.knots_ending.places, entries-length (open_knot a.knots.now a.count) (length a.knots.now)));
 }

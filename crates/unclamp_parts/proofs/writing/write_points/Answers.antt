@@ -15,7 +15,7 @@ use Rattle.unclamp_parts.proofs.writing.write_points.Goals as goal
 
 pub loop-j-init : goal.loop-j-init
 loop-j-init c = let a = c.args in
-    let first = c.copy_coordinates in (omega arith, omega (arith, c.requires.ending.least), stored-anew (points-stored a.m a.knots.now a.ps.now c.requires.ending a.out.now first.new.to c.requires.ps_in_bounds first.ensures.result))
+    let first = c.copy_into in (omega arith, omega (arith, c.requires.ending.least), stored-anew (points-stored a.m a.knots.now a.ps.now c.requires.ending a.out.now first.new.to c.requires.ps_in_bounds first.ensures.result))
 
 pub new_point-requires : goal.new_point-requires
 new_point-requires c =
@@ -35,7 +35,7 @@ loop-j-preserved c = let a = c.args in
 pub returns : goal.returns
 returns c = record {
   result = let a = c.args in
-      let l = c.loop-j in let first = c.copy_coordinates in stored-all
+      let l = c.loop-j in let first = c.copy_into in stored-all
       (stored-since (points-stored a.m a.knots.now a.ps.now c.requires.ending a.out.now first.new.to c.requires.ps_in_bounds first.ensures.result) l.invariant.0 l.invariant.2)
       (omega (arith, c.loop-j-test.false, open_points-length a.m a.knots.now a.ps.now));
 }
