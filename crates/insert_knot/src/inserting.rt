@@ -1,44 +1,28 @@
 // The insertion into a curve that has passed the check: the place of v is searched once, for judging and for writing.
 ghost use Rattle.curve.specs.Lists.{lists};
-ghost use Rattle.grid.specs.Check.{Passes};
+ghost use Rattle.checked.specs.Along.{lists_of};
 ghost use Rattle.insert_knot.specs.Answer.{InsertOutcome};
 
-// Inserts v, or answers 9, 10, 11 or 15 and leaves the lent lists as they were found.
-pub(crate) fn insert_checked(
-    m: usize,
-    knots: &[u16],
-    xs: &[i32],
-    ys: &[i32],
-    v: u32,
-    out_knots: &mut [u16],
-    out_xs: &mut [i32],
-    out_ys: &mut [i32],
-) -> crate::InsertAnswer
-    requires { Passes m knots.now xs.now ys.now }
-    ensures answer { InsertOutcome m (lists knots.now xs.now ys.now) v
-        (lists out_knots.old out_xs.old out_ys.old) result
-        (lists out_knots.new out_xs.new out_ys.new) }
+use crate::judging::judge_at;
+use crate::writing::write;
+use checked::Curve;
+use curve::Lent;
+use refusal::Refusal;
+
+// Inserts v, or refuses it by 9, 10, 11 or 15 and leaves the lent lists as they were found.
+pub(crate) fn insert_checked(curve: Curve<'_>, v: u32, into: Lent<'_>) -> Result<usize, Refusal>
+    ensures answer { InsertOutcome curve.entry.degree (lists_of curve.entry) v
+        (lists into.entry.knots.now into.entry.xs.now into.entry.ys.now) result
+        (lists into.exit.0.now into.exit.1.0.now into.exit.1.1.0.now) }
 {
-    if !span::strictly_inside(knots, m, xs.len(), v) {
-        return crate::InsertAnswer::Refused(refusal::INSERTION);
+    if !span::strictly_inside(curve.knots, curve.degree, curve.xs.len(), v) {
+        return Err(Refusal::Insertion);
     }
     let value = v as u16;
-    let at = insertion_parts::knots_up_to(knots, value);
-    let number = crate::judging::judge_at(m, knots, xs, ys, value, at);
-    if number != refusal::ACCEPTED {
-        return crate::InsertAnswer::Refused(number);
-    }
-    let count = xs.len() + 1;
-    if !curve::room_for(
-        knots.len() + 1,
-        count,
-        ys.len() + 1,
-        out_knots.len(),
-        out_xs.len(),
-        out_ys.len(),
-    ) {
-        return crate::InsertAnswer::Refused(refusal::ROOM);
-    }
-    crate::writing::write(m, knots, xs, ys, value, at, out_knots, out_xs, out_ys);
-    crate::InsertAnswer::Inserted(count)
+    let at = insertion_parts::knots_up_to(curve.knots, value);
+    judge_at(curve, value, at)?;
+    let count = curve.xs.len() + 1;
+    into.room(curve.knots.len() + 1, count, curve.ys.len() + 1)?;
+    write(curve, value, at, into);
+    Ok(count)
 }

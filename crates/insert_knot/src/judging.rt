@@ -1,40 +1,40 @@
 // Why an insertion into a curve that has passed the check is refused, whatever lists are lent: 9, 10, 11.
 ghost use Rattle.std.specs.Prelude.{true, ◌≡◌, length};
-ghost use Rattle.curve.specs.Lists.{lists};
+ghost use Rattle.refusal.specs.Answers.{number_in};
 ghost use Rattle.span.specs.Span.{strictly_inside};
-ghost use Rattle.grid.specs.Check.{Passes};
+ghost use Rattle.checked.specs.Along.{lists_of};
 ghost use Rattle.insertion.specs.Insertion.{knots_up_to, insertion_span};
 ghost use Rattle.insertion.specs.Judged.{insertable_then, whole_ok};
 ghost use Rattle.insertion.specs.Standing.{Insertable};
 
+use checked::Curve;
+use refusal::Refusal;
+
 // Whether every new coordinate is whole, on both axes.
-fn whole_ok(m: usize, knots: &[u16], xs: &[i32], ys: &[i32], v: u16, i: usize) -> bool
-    requires insertable { Insertable m knots.now xs.now v }
-    requires insertable_2 { Insertable m knots.now ys.now v }
-    requires i_value { i ≡ insertion_span knots.now v }
-    ensures answer { result ≡ whole_ok m (lists knots.now xs.now ys.now) v }
+fn whole_ok(curve: Curve<'_>, v: u16, i: usize) -> bool
+    requires xs { Insertable curve.degree curve.knots.now curve.xs.now v }
+    requires ys { Insertable curve.degree curve.knots.now curve.ys.now v }
+    requires i_value { i ≡ insertion_span curve.knots.now v }
+    ensures answer { result ≡ whole_ok curve.entry.degree (lists_of curve.entry) v }
 {
-    if !insertion_parts::whole_points(m, knots, xs, v, i) {
-        return false;
-    }
-    insertion_parts::whole_points(m, knots, ys, v, i)
+    insertion_parts::whole_points(curve.degree, curve.knots, curve.xs, v, i)
+        && insertion_parts::whole_points(curve.degree, curve.knots, curve.ys, v, i)
 }
 
-// 0, or the number of inserting v behind the first `at` knots, where v lies strictly inside the domain.
-pub(crate) fn judge_at(m: usize, knots: &[u16], xs: &[i32], ys: &[i32], v: u16, at: usize) -> u32
-    requires passes { Passes m knots.now xs.now ys.now }
-    requires v_value { strictly_inside knots.now m (length xs.now) v ≡ true }
-    requires at_value { at ≡ knots_up_to v knots.now }
-    ensures answer { result ≡ insertable_then m (lists knots.now xs.now ys.now) v 0 }
+// Nothing, or the refusal of inserting v behind the first `at` knots, where v lies strictly inside the domain.
+pub(crate) fn judge_at(curve: Curve<'_>, v: u16, at: usize) -> Result<(), Refusal>
+    requires v_value { strictly_inside curve.knots.now curve.degree (length curve.xs.now) v ≡ true }
+    requires at_value { at ≡ knots_up_to v curve.knots.now }
+    ensures answer { number_in result ≡ insertable_then curve.entry.degree (lists_of curve.entry) v 0 }
 {
-    if insertion_parts::stands(m, knots, v, at) {
-        return refusal::INSERTION;
+    if insertion_parts::stands(curve.degree, curve.knots, v, at) {
+        return Err(Refusal::Insertion);
     }
-    if grid::POINTS_MOST <= xs.len() {
-        return refusal::FULL;
+    if grid::POINTS_MOST <= curve.xs.len() {
+        return Err(Refusal::Full);
     }
-    if !whole_ok(m, knots, xs, ys, v, at - 1) {
-        return refusal::NOT_WHOLE;
+    if !whole_ok(curve, v, at - 1) {
+        return Err(Refusal::NotWhole);
     }
-    refusal::ACCEPTED
+    Ok(())
 }

@@ -1,3 +1,0 @@
--- Laws of the insertion call.
-pub mod AnswerLaws
-mod Controls
