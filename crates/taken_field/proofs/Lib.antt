@@ -1,2 +1,0 @@
--- Laws of judging one field.
-pub mod TakeLaws
