@@ -1,9 +1,13 @@
-// Bytes and the digits of a number, put into a lent list from a place on.
+// Bytes and the digits of a number, written into a lent list from a place on.
 #![tactic(auto)]
+
+mod pen;
 
 ghost use Rattle.std.specs.Prelude.{◌∷◌, [], ◌≡◌, ◌+◌, ◌≤◌, ◌<◌, length};
 ghost use Rattle.digits.specs.Decimal.{decimal};
 ghost use Rattle.digits.specs.Put.{Put};
+
+pub use pen::Pen;
 
 // Puts one byte.
 pub fn put_byte(out: &mut [u8], at: usize, byte: u8) -> usize
