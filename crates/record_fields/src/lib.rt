@@ -5,12 +5,14 @@ ghost use Rattle.std.specs.Prelude.{◌≡◌, [], ◌∷◌, ◌+◌, ◌*◌, 
 ghost use Rattle.fields.specs.Bytes.{field_bytes, knot_bytes, coordinate_bytes};
 ghost use Rattle.fields.specs.Places.{put_at};
 ghost use Rattle.grid.specs.Limits.{head_bytes};
-ghost use Rattle.curve.specs.Lists.{lists};
+ghost use Rattle.checked.specs.Along.{lists_of};
 ghost use Rattle.format.specs.Format.{degree_tag, knots_tag, form1, record_bytes};
 ghost use Rattle.format.specs.RecordPlaces.{knots_field, record_end};
 
+use checked::Curve;
+
 // The degree's field.
-fn put_degree(degree: u32, out: &mut [u8])
+fn put_degree(degree: usize, out: &mut [u8])
     requires { (degree < 256) × (knots_field ≤ length out.old) }
     ensures result { out.new ≡ put_at out.old 0 (field_bytes degree_tag (degree ∷ [])) }
 {
@@ -36,16 +38,15 @@ fn put_coordinates_field(tag: u8, zs: &[i32], out: &mut [u8], at: usize)
     fields::put_coordinates(zs, out, at + grid::HEAD_BYTES);
 }
 
-// The whole record, at the front.
-pub fn put_record(degree: u32, knots: &[u16], xs: &[i32], ys: &[i32], out: &mut [u8])
-    requires { (degree < 256) × (record_end (2 * length knots.now) (4 * length xs.now) (4 * length ys.now) ≤ length out.old) }
-    ensures result { out.new
-        ≡ put_at out.old 0 (record_bytes form1 degree (lists knots.now xs.now ys.now)) }
+// The whole record of a curve, at the front.
+pub fn put_record(curve: Curve<'_>, out: &mut [u8])
+    requires { record_end (2 * length curve.knots.now) (4 * length curve.xs.now) (4 * length curve.ys.now) ≤ length out.old }
+    ensures result { out.new ≡ put_at out.old 0 (record_bytes form1 curve.entry.degree (lists_of curve.entry)) }
 {
-    let on_x = format::BEFORE_KNOTS + 2 * knots.len();
-    let on_y = on_x + grid::HEAD_BYTES + 4 * xs.len();
-    put_degree(degree, out);
-    put_knots_field(knots, out, format::KNOTS_FIELD);
-    put_coordinates_field(format::X_TAG, xs, out, on_x);
-    put_coordinates_field(format::Y_TAG, ys, out, on_y);
+    let on_x = format::BEFORE_KNOTS + 2 * curve.knots.len();
+    let on_y = on_x + grid::HEAD_BYTES + 4 * curve.xs.len();
+    put_degree(curve.degree, out);
+    put_knots_field(curve.knots, out, format::KNOTS_FIELD);
+    put_coordinates_field(format::X_TAG, curve.xs, out, on_x);
+    put_coordinates_field(format::Y_TAG, curve.ys, out, on_y);
 }
