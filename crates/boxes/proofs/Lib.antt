@@ -1,6 +1,5 @@
 -- Laws of boxes.
-mod PickLaws
-mod MeetingLaws
+pub mod MeetingLaws
 pub mod WideningLaws
 pub mod SentenceLaws
 pub mod NearLaws

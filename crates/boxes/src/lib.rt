@@ -2,13 +2,14 @@
 #![tactic(auto)]
 
 ghost use Rattle.std.specs.Prelude.{true, ◌≡◌};
+ghost use Rattle.std.specs.List.{list_any};
+ghost use Rattle.std.specs.Int.Signed.{le_z};
 ghost use Rattle.grid.specs.Rows.{rectangle_ok, radius_ok};
-ghost use Rattle.boxes.specs.Extent.{lesser, greater};
 ghost use Rattle.boxes.specs.Meeting.{meets_on_axis};
 ghost use Rattle.boxes.specs.Widening.{widened};
 
 // A rectangle with closed sides.
-#[derive(Clone, Copy)]
+#[derive(Clone, Copy, PartialEq, Eq, Debug)]
 pub struct Rectangle {
     pub low_x: i32,
     pub high_x: i32,
@@ -30,37 +31,24 @@ pub fn widened(clamp: Rectangle, radius: u32) -> Rectangle
     }
 }
 
-fn lesser(a: i32, b: i32) -> i32
-    ensures answer { result ≡ lesser a b }
+// Whether some coordinate is at most `high`.
+fn some_at_most(zs: &[i32], high: i32) -> bool
+    ensures answer { result ≡ list_any (λ z. le_z z high) zs.now }
 {
-    if a < b { a } else { b }
+    zs.iter().any(|z| *z <= high)
 }
 
-fn greater(a: i32, b: i32) -> i32
-    ensures answer { result ≡ greater a b }
+// Whether some coordinate is at least `low`.
+fn some_at_least(zs: &[i32], low: i32) -> bool
+    ensures answer { result ≡ list_any (λ z. le_z low z) zs.now }
 {
-    if b < a { a } else { b }
+    zs.iter().any(|z| low <= *z)
 }
 
 // Whether the box of the coordinates meets low..high on their axis, a shared side included.
+#[tactic(auto, using(crate::proofs::MeetingLaws::meets_any))]
 pub fn meets_on_axis(zs: &[i32], low: i32, high: i32) -> bool
     ensures answer { result ≡ meets_on_axis low high zs.now }
 {
-    if zs.len() == 0 {
-        return false;
-    }
-    let mut least = zs[0];
-    let mut greatest = zs[0];
-    let mut k = 1;
-    while k < zs.len() {
-        let z = zs[k];
-        least = lesser(z, least);
-        greatest = greater(z, greatest);
-        k += 1;
-    }
-    if least <= high {
-        low <= greatest
-    } else {
-        false
-    }
+    some_at_most(zs, high) && some_at_least(zs, low)
 }
