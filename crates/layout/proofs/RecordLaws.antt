@@ -14,12 +14,11 @@ use Rattle.format.proofs.EntryLaws.{knots-exact, coordinates-exact, knots-small,
 use Rattle.format.proofs.InjectiveLaws.{record-grouped}
 use Rattle.format.proofs.SizeLaws.{length-knots, length-coordinates}
 use Rattle.layout.specs.StoredCurve.{degree_in, curve_in}
-use Rattle.layout.specs.Judging.{degree_rule, knots_rule, x_rule, y_rule, record_layout}
+use Rattle.layout.specs.Judging.{degree_rule, knots_rule, x_rule, y_rule, sound, record_layout}
 use Rattle.taken_field.specs.declared.Rule.{Rule}
-use Rattle.layout.specs.declared.Layout.TheVariants.{Sound}
 use Rattle.layout.proofs.SplitLaws.{Whole, Laid, layout-known, layout-within, field-split, length_whole}
 
-module _ (bytes : List ℕ) (octets : Octets bytes) (k x y : ℕ) (e : record_layout bytes ≡ Sound k x y) where
+module _ (bytes : List ℕ) (octets : Octets bytes) (k x y : ℕ) (e : record_layout bytes ≡ sound k x y) where
   laid : Laid bytes k x y
   laid = layout-known k x y bytes e
 

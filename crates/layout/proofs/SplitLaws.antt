@@ -1,4 +1,5 @@
 -- Where a field is taken, the bytes from its place on are a field's bytes of a right length, and then anything.
+use Rattle.std.specs.Prelude.{Result, Ok, Err}
 use mathlib.Core.Bool.{Bool, true, false, cond, not, ◌&&◌}
 use mathlib.Core.Path.{◌≡◌, refl, sym, ap, ◌∙◌, subst, subst₂, subst₃}
 use mathlib.Core.List.{List, ◌∷◌, ◌++◌}
@@ -8,28 +9,24 @@ use native.Mathlib.Omega.{arith}
 use lib.Dec.{leb, ltb, eqb}
 use lib.ListN.{length, get_or, take, drop, length-drop, take-append-drop}
 use lib.Seq.{drop-cons, drop-drop, length-take-le}
-use borrow.Author.Tests.{leb-true, ltb-false, eqb-true, eq-eqb, not-false}
+use borrow.Author.Tests.{leb-true, ltb-false, eqb-true, eq-eqb, le-leb, ne_eqb, not-false}
 use Rattle.fields.specs.Bytes.{field_bytes, Octets}
 use Rattle.fields.specs.Places.{u16_at}
 use Rattle.refusal.proofs.JudgingLaws.{both}
 use Rattle.grid.specs.Limits.{knot_bytes_most, coordinate_bytes_most}
 use Rattle.format.specs.RecordPlaces.{knots_field, x_field, y_field, record_end}
 use Rattle.taken_field.specs.Taking.{ended_at, tag_at, length_at, length_ok, whole_entries, field_at}
-use Rattle.layout.specs.Judging.{then_field, degree_rule, knots_rule, x_rule, y_rule, from_knots, from_x, from_y, record_layout}
+use Rattle.layout.specs.Judging.{then_field, degree_rule, knots_rule, x_rule, y_rule, from_knots, from_x, from_y, sound, record_layout}
 use Rattle.taken_field.specs.declared.Rule.{Rule}
 use Rattle.taken_field.specs.declared.Break.{Break}
-use Rattle.taken_field.specs.declared.Taken.{Taken}
-use Rattle.taken_field.specs.declared.Taken.TheVariants.{Field, Broken}
 use Rattle.layout.specs.declared.Layout.{Layout}
-use Rattle.layout.specs.declared.Layout.TheVariants.{Sound, Broken as Unsound}
 use Rattle.format.proofs.EntryLaws.{pair-low, pair-high}
-use Rattle.taken_field.proofs.TakeLaws.{length-entries}
 
-pub broken-field : (fault : Break) (len : ℕ) → Broken fault ≡ Field len → ⊥
+pub broken-field : (fault : Break) (len : ℕ) → Err fault ≡ Ok len → ⊥
 broken-field fault len e = let z : ◌≡◌ {A = ℕ} 0 1 = cc in omega arith
 
 -- a test that gives a fault has failed, where a field was taken
-past : (b : Bool) (fault : Break) (next : Taken) (len : ℕ) → cond b (Broken fault) next ≡ Field len → (b ≡ false) × (next ≡ Field len)
+past : (b : Bool) (fault : Break) (next : Result ℕ Break) (len : ℕ) → cond b (Err fault) next ≡ Ok len → (b ≡ false) × (next ≡ Ok len)
 past true fault next len e = absurd (broken-field fault len e)
 past false fault next len e = (refl, e)
 
@@ -40,20 +37,20 @@ pub record Whole (rule : Rule) (bytes : List ℕ) (at len : ℕ) : Type 0 where
   pub right : length_ok rule len ≡ true
   pub inside : at + 3 + len ≤ length bytes
 
-pub field-known : (rule : Rule) (bytes : List ℕ) (at len : ℕ) → field_at rule bytes at ≡ Field len → Whole rule bytes at len
+pub field-known : (rule : Rule) (bytes : List ℕ) (at len : ℕ) → field_at rule bytes at ≡ Ok len → Whole rule bytes at len
 unfolding field_at
 field-known rule bytes at len e =
     let n : ℕ = length bytes in
     let size : ℕ = u16_at bytes (at + 1) in
-    let whole : Taken = cond (ltb n (at + 3 + size)) (Broken (ended_at n)) (Field size) in
-    let sized : Taken = cond (not (length_ok rule size)) (Broken (length_at (at + 1))) whole in
-    let headed : Taken = cond (ltb n (at + 3)) (Broken (ended_at n)) sized in
-    let tagged : Taken = cond (not (eqb (get_or bytes at 0) rule.tag)) (Broken (tag_at at)) headed in
+    let whole : Result ℕ Break = cond (ltb n (at + 3 + size)) (Err (ended_at n)) (Ok size) in
+    let sized : Result ℕ Break = cond (not (length_ok rule size)) (Err (length_at (at + 1))) whole in
+    let headed : Result ℕ Break = cond (ltb n (at + 3)) (Err (ended_at n)) sized in
+    let tagged : Result ℕ Break = cond (not (eqb (get_or bytes at 0) rule.tag)) (Err (tag_at at)) headed in
     let a = past (leb n at) (ended_at n) tagged len e in
     let b = past (not (eqb (get_or bytes at 0) rule.tag)) (tag_at at) headed len a.1 in
     let c = past (ltb n (at + 3)) (ended_at n) sized len b.1 in
     let d = past (not (length_ok rule size)) (length_at (at + 1)) whole len c.1 in
-    let f = past (ltb n (at + 3 + size)) (ended_at n) (Field size) len d.1 in
+    let f = past (ltb n (at + 3 + size)) (ended_at n) (Ok size) len d.1 in
     let is : size ≡ len = cc f.1 in
     record {
       tag = eqb-true (get_or bytes at 0) rule.tag (not-false _ b.0);
@@ -80,11 +77,9 @@ length_whole rule len e =
 
 -- and what makes a length right
 pub length-right : (rule : Rule) (len : ℕ) → rule.least ≤ len → len ≤ rule.most → (rule.width ≡ 0 → ⊥) → len % rule.width ≡ 0 → length_ok rule len ≡ true
-length-right rule len low high width whole = length-entries rule len low high width ∙ eq-eqb (len % rule.width) 0 whole
-
--- a field that was taken is no longer than its rule's most
-pub field-most : (rule : Rule) (bytes : List ℕ) (at len : ℕ) → field_at rule bytes at ≡ Field len → len ≤ rule.most
-field-most rule bytes at len e = length_most rule len (field-known rule bytes at len e).right
+unfolding length_ok
+length-right rule len low high width whole =
+    rw (le-leb rule.least len low, le-leb len rule.most high, ne_eqb rule.width 0 width, eq-eqb (len % rule.width) 0 whole)
 
 -- the three bytes of a field's head, and what follows
 pub three-ahead : (bytes : List ℕ) (at : ℕ) → at + 3 ≤ length bytes
@@ -117,6 +112,10 @@ field-split rule bytes at len octets whole =
     ∙ ap (λ (b : ℕ). rule.tag ∷ b ∷ high ∷ (contents ++ drop (at + 3 + len) bytes)) is_low
     ∙ ap (λ (b : ℕ). rule.tag ∷ length contents % 256 ∷ b ∷ (contents ++ drop (at + 3 + len) bytes)) is_high
 
+-- a sound layout tells its lengths
+pub lengths_one : (l k : Layout) → ◌≡◌ {A = Result Layout Break} (Ok l) (Ok k) → l ≡ k
+lengths_one l k e = cc e
+
 -- what is known where a record's fields were taken
 pub record Laid (bytes : List ℕ) (k x y : ℕ) : Type 0 where
   pub degree : Whole degree_rule bytes 0 1
@@ -125,24 +124,25 @@ pub record Laid (bytes : List ℕ) (k x y : ℕ) : Type 0 where
   pub on_y : Whole y_rule bytes (y_field k x) y
 
 module _ (k x y : ℕ) where
-  pub broken-layout : (fault : Break) → Unsound fault ≡ Sound k x y → ⊥
+  pub broken-layout : (fault : Break) → Err fault ≡ sound k x y → ⊥
   broken-layout fault e = let z : ◌≡◌ {A = ℕ} 0 1 = cc in omega arith
 
   -- a sound layout has taken the field that it begins with
-  taken-first : (t : Taken) (next : ℕ → Layout) → then_field t next ≡ Sound k x y → (len : ℕ) × (t ≡ Field len) × (next len ≡ Sound k x y)
-  taken-first (Field len) next e = (len, refl, e)
-  taken-first (Broken fault) next e = absurd (broken-layout fault e)
+  taken-first : (t : Result ℕ Break) (next : ℕ → Result Layout Break) → then_field t next ≡ sound k x y → (len : ℕ) × (t ≡ Ok len) × (next len ≡ sound k x y)
+  taken-first (Ok len) next e = (len, refl, e)
+  taken-first (Err fault) next e = absurd (broken-layout fault e)
 
-  pub layout-known : (bytes : List ℕ) → record_layout bytes ≡ Sound k x y → Laid bytes k x y
+  pub layout-known : (bytes : List ℕ) → record_layout bytes ≡ sound k x y → Laid bytes k x y
   unfolding record_layout
   layout-known bytes e =
       let a = taken-first (field_at degree_rule bytes 0) (λ d. from_knots bytes) e in
       let b = taken-first (field_at knots_rule bytes knots_field) (λ k. from_x bytes k) a.2 in
       let c = taken-first (field_at x_rule bytes (x_field b.0)) (λ x. from_y bytes b.0 x) b.2 in
-      let d = taken-first (field_at y_rule bytes (y_field b.0 c.0)) (λ y. Sound b.0 c.0 y) c.2 in
-      let is_k : b.0 ≡ k = cc d.2 in
-      let is_x : c.0 ≡ x = cc d.2 in
-      let is_y : d.0 ≡ y = cc d.2 in
+      let d = taken-first (field_at y_rule bytes (y_field b.0 c.0)) (λ y. sound b.0 c.0 y) c.2 in
+      let same = lengths_one (record { knots = b.0; xs = c.0; ys = d.0 }) (record { knots = k; xs = x; ys = y }) d.2 in
+      let is_k : b.0 ≡ k = ap (λ (l : Layout). l.knots) same in
+      let is_x : c.0 ≡ x = ap (λ (l : Layout). l.xs) same in
+      let is_y : d.0 ≡ y = ap (λ (l : Layout). l.ys) same in
       let first : Whole degree_rule bytes 0 a.0 = field-known degree_rule bytes 0 a.0 a.1 in
       let one : a.0 ≡ 1 = omega (arith, length-least degree_rule a.0 first.right, length_most degree_rule a.0 first.right) in
       record {
@@ -160,7 +160,7 @@ pub record Within (k x y : ℕ) : Type 0 where
   pub on_x : x ≤ coordinate_bytes_most
   pub on_y : y ≤ coordinate_bytes_most
 
-pub layout-within : (bytes : List ℕ) (k x y : ℕ) → record_layout bytes ≡ Sound k x y → Within k x y
+pub layout-within : (bytes : List ℕ) (k x y : ℕ) → record_layout bytes ≡ sound k x y → Within k x y
 layout-within bytes k x y e =
     let laid = layout-known k x y bytes e in
     record {
@@ -170,5 +170,5 @@ layout-within bytes k x y e =
     }
 
 -- a sound layout lies within the bytes
-pub layout-inside : (bytes : List ℕ) (k x y : ℕ) → record_layout bytes ≡ Sound k x y → record_end k x y ≤ length bytes
+pub layout-inside : (bytes : List ℕ) (k x y : ℕ) → record_layout bytes ≡ sound k x y → record_end k x y ≤ length bytes
 layout-inside bytes k x y e = omega (arith, (layout-known k x y bytes e).on_y.inside)

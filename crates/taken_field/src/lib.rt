@@ -1,7 +1,7 @@
 // Judges one field of bytes: its tag, then its length, then its contents; or tells the first fault with its place.
 #![tactic(auto)]
 
-ghost use Rattle.std.specs.Prelude.{◌≡◌};
+ghost use Rattle.std.specs.Prelude.{◌≡◌, ◌≤◌, IfOk};
 ghost use Rattle.taken_field.specs.Taking.{length_ok, field_at};
 ghost use Rattle.taken_field.specs.declared.Failure.TheVariants.{Broken, Refused};
 
@@ -56,9 +56,10 @@ pub fn length_ok(rule: Rule, len: usize) -> bool
 
 // The length of the contents of the field that begins at `at`. Judges its tag, then its length, then its contents.
 // The bytes and a place, and no reader that holds both: the layouts and their laws speak of places in the whole input.
-#[tactic(auto, unfolding(crate::specs::Taking::field_at))]
+#[tactic(auto, unfolding(crate::specs::Taking::field_at, crate::specs::Taking::length_ok))]
 pub fn take_field(bytes: &[u8], at: usize, rule: Rule) -> Result<usize, Break>
     ensures answer { result ≡ field_at rule bytes.now at }
+    ensures most { IfOk result (λ len. len ≤ rule.most) }
 {
     let len = bytes.len();
     let ended = Err(Break {
