@@ -23,6 +23,8 @@ pub(crate) fn insert_checked(curve: Curve<'_>, v: u32, into: Lent<'_>) -> Result
     judge_at(curve, value, at)?;
     let count = curve.xs.len() + 1;
     into.room(curve.knots.len() + 1, count, curve.ys.len() + 1)?;
-    write(curve, value, at, into);
+    // Taken apart: where it is handed on whole, the check loses sight of the lists that a refusal leaves.
+    let Lent { knots, xs, ys } = into;
+    write(curve, value, at, knots, xs, ys);
     Ok(count)
 }

@@ -7,24 +7,30 @@ ghost use Rattle.insertion.specs.Insertion.{knots_up_to, inserted};
 ghost use Rattle.insertion.specs.Standing.{Insertable};
 
 use checked::Curve;
-use curve::Lent;
 
 // The new knots, x and y, where v stands behind the first `at` knots.
-pub(crate) fn write(curve: Curve<'_>, v: u16, at: usize, into: Lent<'_>)
+pub(crate) fn write(
+    curve: Curve<'_>,
+    v: u16,
+    at: usize,
+    out_knots: &mut [u16],
+    out_xs: &mut [i32],
+    out_ys: &mut [i32],
+)
     requires xs { Insertable curve.degree curve.knots.now curve.xs.now v }
     requires ys { Insertable curve.degree curve.knots.now curve.ys.now v }
     requires at_value { at ≡ knots_up_to v curve.knots.now }
-    requires knots_in_bounds { length curve.knots.now + 1 ≤ length into.knots.now }
-    requires xs_in_bounds { length curve.xs.now + 1 ≤ length into.xs.now }
-    requires ys_in_bounds { length curve.ys.now + 1 ≤ length into.ys.now }
-    ensures result { lists into.exit.0.now into.exit.1.0.now into.exit.1.1.0.now
+    requires knots_in_bounds { length curve.knots.now + 1 ≤ length out_knots.old }
+    requires xs_in_bounds { length curve.xs.now + 1 ≤ length out_xs.old }
+    requires ys_in_bounds { length curve.ys.now + 1 ≤ length out_ys.old }
+    ensures result { lists out_knots.new out_xs.new out_ys.new
         ≡ handed_over 0 (inserted curve.entry.degree (lists_of curve.entry) v)
-        (lists into.entry.knots.now into.entry.xs.now into.entry.ys.now) }
+        (lists out_knots.old out_xs.old out_ys.old) }
 {
     let i = at - 1;
     let m = curve.degree;
     let knots = curve.knots;
-    insertion_parts::insert_value(knots, v, at, into.knots);
-    insertion_parts::insert_points(m, knots, curve.xs, v, i, into.xs);
-    insertion_parts::insert_points(m, knots, curve.ys, v, i, into.ys);
+    insertion_parts::insert_value(knots, v, at, out_knots);
+    insertion_parts::insert_points(m, knots, curve.xs, v, i, out_xs);
+    insertion_parts::insert_points(m, knots, curve.ys, v, i, out_ys);
 }

@@ -1,0 +1,3 @@
+-- Laws of the insertion call.
+pub mod AnswerLaws
+mod Controls
