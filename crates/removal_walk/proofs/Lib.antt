@@ -3,3 +3,4 @@ pub mod BitsLaws
 pub mod FarLaws
 pub mod CopyLaws
 pub mod WalkLaws
+pub mod SpanRules

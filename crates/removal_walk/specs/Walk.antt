@@ -1,7 +1,9 @@
 -- What the parts of a removal on one axis answer, for the inner functions: a walk from the left that must agree with the right side where it ends.
 -- `ks` are the knots with one v fewer, `ps` the old coordinates.
-use Rattle.std.specs.Prelude.{Bool, true, false, ◌&&◌, List, ◌≡◌, ℕ, ◌+◌, ◌-◌, ◌≤◌, ◌<◌, ℤ, pos, nat_abs, ◌*ℤ◌, length, get_or}
+use Rattle.std.specs.Prelude.{Bool, true, false, ◌&&◌, Result, Ok, Err, List, ◌≡◌, ℕ, ◌+◌, ◌-◌, ◌≤◌, ◌<◌, ℤ, pos, nat_abs, ◌*ℤ◌, length, get_or}
 use Rattle.std.specs.Int.Signed.{quot_z}
+use Rattle.refusal.specs.declared.Refusal.{Refusal}
+use Rattle.refusal.specs.declared.Refusal.TheVariants.{NotRemovable}
 use Rattle.grid.specs.Limits.{coordinate_most}
 use Rattle.grid.specs.Rows.{on_grid}
 use Rattle.signed.specs.Division.{divides}
@@ -26,10 +28,10 @@ pub record Walked (m : ℕ) (ks : List ℕ) (v : ℕ) (ps w : List ℤ) (far : �
   pub range : (j : ℕ) → insertion_span ks v < j + m → j < far → nat_abs (point_at w j) ≤ coordinate_most
   pub only : (p : List ℤ) → AxisReinserts m ks p v ps → (j : ℕ) → insertion_span ks v ≤ j + m → j < far → point_at p j ≡ point_at w j
 
--- what a walk answers: true with the points up to `far`, false where no list gives the old coordinates back
-pub record WalkOutcome (m : ℕ) (ks : List ℕ) (v : ℕ) (ps w : List ℤ) (far : ℕ) (r : Bool) : Type 0 where
-  pub found : r ≡ true → Walked m ks v ps w far
-  pub none : r ≡ false → (p : List ℤ) → AxisReinserts m ks p v ps → ⊥
+-- what a walk answers: the points up to `far`, or a refusal where no list gives the old coordinates back
+abbrev pub WalkOutcome : ℕ → List ℕ → ℕ → List ℤ → List ℤ → ℕ → Result (Unit {0}) Refusal → Type 0
+WalkOutcome m ks v ps w far (Ok done) = Walked m ks v ps w far
+WalkOutcome m ks v ps w far (Err refusal) = (refusal ≡ NotRemovable) × ((p : List ℤ) → AxisReinserts m ks p v ps → ⊥)
 
 -- a test's answer is whether P holds
 pub record Says (r : Bool) (P : Type 0) : Type 0 where
@@ -47,7 +49,7 @@ pub record BetweenSides (ps : List ℤ) (start far : ℕ) (w q : List ℤ) : Typ
   pub between : (j : ℕ) → start ≤ j → j < far → point_at q j ≡ point_at w j
   pub right : (j : ℕ) → far ≤ j → j < length q → point_at q j ≡ point_at ps (j + 1)
 
--- what one axis answers: true with the polygon's coordinates, false where there are none
-pub record AxisOutcome (m : ℕ) (ks : List ℕ) (v : ℕ) (ps : List ℤ) (q : List ℤ) (r : Bool) : Type 0 where
-  pub found : r ≡ true → AxisReinserts m ks q v ps
-  pub none : r ≡ false → (p : List ℤ) → AxisReinserts m ks p v ps → ⊥
+-- what one axis answers: the polygon's coordinates, or a refusal where there are none
+abbrev pub AxisOutcome : ℕ → List ℕ → ℕ → List ℤ → List ℤ → Result (Unit {0}) Refusal → Type 0
+AxisOutcome m ks v ps q (Ok done) = AxisReinserts m ks q v ps
+AxisOutcome m ks v ps q (Err refusal) = (refusal ≡ NotRemovable) × ((p : List ℤ) → AxisReinserts m ks p v ps → ⊥)

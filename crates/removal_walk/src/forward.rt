@@ -26,7 +26,7 @@ pub(crate) fn quotient(z: i64, d: u16) -> i64
     requires { 0 < d }
     ensures answer { result ≡ quot_z z (pos d) }
 {
-    z / (d as i64)
+    z / i64::from(d)
 }
 
 // z / d is a whole number on the grid.
@@ -34,8 +34,5 @@ pub(crate) fn is_point(z: i64, d: u16) -> bool
     requires { 0 < d }
     ensures answer { result ≡ is_point d z }
 {
-    if !insertion_parts::is_multiple(z, d) {
-        return false;
-    }
-    grid::on_grid_wide(quotient(z, d))
+    insertion_parts::is_multiple(z, d) && grid::on_grid_wide(quotient(z, d))
 }

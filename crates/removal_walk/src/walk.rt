@@ -5,7 +5,10 @@ ghost use Rattle.insertion.specs.Standing.{Weighed};
 ghost use Rattle.removal.specs.Axis.{Reduced};
 ghost use Rattle.removal_walk.specs.Walk.{FarEnd, WalkOutcome, Says, FarAgrees, BetweenSides};
 
-// The last j from i-m+1 to i whose knot is below v, or i-m+1.
+use refusal::Refusal;
+
+// The last j from i-m+1 to i whose knot is below v, or i-m+1. A walk from the right that ends early: no range would say it more plainly.
+#[tactic(auto, using(crate::proofs::SpanRules::span_inside))]
 pub(crate) fn far_end(m: usize, ks: &[u16], v: u16, i: usize) -> usize
     requires reduced { Reduced m ks.now (length ks.now - (m + 1)) v }
     requires i_value { i ≡ insertion_span ks.now v }
@@ -22,7 +25,8 @@ pub(crate) fn far_end(m: usize, ks: &[u16], v: u16, i: usize) -> usize
     far
 }
 
-// Writes P_{i-m} and the points behind it up to `far`, or answers false where one is not whole or off the grid.
+// Writes P_{i-m} and the points behind it up to `far`, or refuses where one is not whole or off the grid.
+#[tactic(auto, using(crate::proofs::SpanRules::span_inside))]
 pub(crate) fn from_left(
     m: usize,
     ks: &[u16],
@@ -31,7 +35,7 @@ pub(crate) fn from_left(
     i: usize,
     far: usize,
     out: &mut [i32],
-) -> bool
+) -> Result<(), Refusal>
     requires reduced { Reduced m ks.now (length ps.now - 1) v }
     requires i_value { i ≡ insertion_span ks.now v }
     requires far_end { FarEnd m ks.now v far }
@@ -41,18 +45,16 @@ pub(crate) fn from_left(
     let start = i - m;
     let mut last = ps[start];
     out[start] = last;
-    let mut j = start + 1;
-    while j < far {
+    for j in start + 1..far {
         let rest = crate::forward::left_for(m, ks, ps, v, j, last);
         let d = v - ks[j];
         if !crate::forward::is_point(rest, d) {
-            return false;
+            return Err(Refusal::NotRemovable);
         }
         last = insertion_parts::quotient(rest, d);
         out[j] = last;
-        j += 1;
     }
-    true
+    Ok(())
 }
 
 // Whether the point that the right side gives at `far` is the one that follows from the point before it.

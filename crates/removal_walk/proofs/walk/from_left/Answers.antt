@@ -1,7 +1,7 @@
 -- The invariant: the walk has come to j.
-use mathlib.Core.Bool.{true, true≢false}
-use mathlib.Core.Path.{◌≡◌, sym, ap, ◌∙◌}
-use Prim.Native.Nat.{◌-◌, ◌≤◌, ◌<◌}
+use mathlib.Core.Bool.{true}
+use mathlib.Core.Path.{◌≡◌, refl, sym, ap, ◌∙◌}
+use Prim.Native.Nat.{◌-◌, ◌<◌}
 use native.Mathlib.Omega.{arith}
 use lib.IntN.{ℤ, pos}
 use lib.ListN.{length, get_or}
@@ -13,21 +13,9 @@ use Rattle.insertion.specs.Insertion.{point_at}
 use Rattle.insertion.specs.Standing.{Weighed}
 use Rattle.removal.specs.Axis.{left_for}
 use Rattle.removal_walk.specs.Walk.{is_point}
-use Rattle.removal.proofs.EquationLaws.{reduced-least, reduced-most}
 use Rattle.removal_walk.proofs.WalkLaws.{point-size, walk-starts, walk-weighed, walk-goes-on, walk-stops}
 use Rattle.removal_walk.proofs.walk.from_left.Goals.{After-is_point, Else-not-is_point, In-loop-j, Start}
 use Rattle.removal_walk.proofs.walk.from_left.Goals as goal
-
--- the span lies inside the list
-least : (s : Start) → s.args.m ≤ s.args.i
-least s =
-    let a = s.args in
-    omega (arith, reduced-least a.m a.ks.now a.v (length a.ps.now - 1) s.requires.reduced, s.requires.i_value)
-
-most : (s : Start) → s.args.i < length s.args.out.now
-most s =
-    let a = s.args in
-    omega (arith, reduced-most a.m a.ks.now a.v (length a.ps.now - 1) s.requires.reduced, s.requires.i_value, s.requires.out_len)
 
 -- what is left at j, and whether it makes a point
 rest : (c : After-is_point) → to_z w64 (of_z w64 c.left_for-rest.result) ≡ left_for c.args.m c.args.ks.now c.args.ps.now c.args.v c.loop-j.j (to_z w32 c.loop-j.last-bits)
@@ -48,26 +36,6 @@ weighed c =
 below : (c : In-loop-j) → get_or c.args.ks.now c.loop-j.j 0 < c.args.v
 below c = c.requires.far_end.below c.loop-j.j c.loop-j.invariant.from c.loop-j-test.true
 
-stored : (c : In-loop-j) → c.loop-j.j < length c.args.out.now
-stored c =
-    let most : c.args.i < length c.args.out.now = let a = c.args in
-    omega (arith, reduced-most a.m a.ks.now a.v (length a.ps.now - 1) c.requires.reduced, c.requires.i_value, c.requires.out_len) in omega (arith, (weighed c).point, c.loop-j-test.true, c.requires.far_end.to, most, c.requires.i_value)
-
-pub overflow_sub-start : goal.overflow_sub-start
-overflow_sub-start c = least (goal.at.overflow_sub-start c).Start
-
-pub offset_bounds-ps-start : goal.offset_bounds-ps-start
-offset_bounds-ps-start c = omega (arith, most (goal.at.offset_bounds-ps-start c).Start, c.well_formed)
-
-pub bounds-ps-start : goal.bounds-ps-start
-bounds-ps-start c = omega (arith, most (goal.at.bounds-ps-start c).Start, c.requires.out_len)
-
-pub offset_bounds-out-start : goal.offset_bounds-out-start
-offset_bounds-out-start c = omega (arith, most (goal.at.offset_bounds-out-start c).Start, c.well_formed)
-
-pub bounds-out-start : goal.bounds-out-start
-bounds-out-start c = omega (arith, most (goal.at.bounds-out-start c).Start)
-
 pub loop-j-init : goal.loop-j-init
 loop-j-init c = let a = c.args in
     rw (to_z-of_z w32 (point_at a.ps.now (a.i - a.m)) (record { sfits = c.last-1.given }), c.requires.i_value)
@@ -76,21 +44,14 @@ loop-j-init c = let a = c.args in
 pub left_for-rest-requires : goal.left_for-rest-requires
 left_for-rest-requires c = weighed c
 
-pub offset_bounds-ks-j : goal.offset_bounds-ks-j
-offset_bounds-ks-j c = omega (arith, (weighed (goal.at.offset_bounds-ks-j c).In-loop-j).knot, c.well_formed)
-
-pub bounds-ks-j : goal.bounds-ks-j
-bounds-ks-j c = omega (arith, (weighed (goal.at.bounds-ks-j c).In-loop-j).knot)
-
 pub returns-then-not-is_point : goal.returns-then-not-is_point
 returns-then-not-is_point c = record {
   answer = let a = c.args in
-      let l = c.loop-j in record {
-        found = λ e. absurd (true≢false (sym e));
-        none = λ e.
-            walk-stops a.m a.ks.now a.v a.ps.now a.far c.requires.reduced c.requires.far_end l.out (to_z w32 l.last-bits) l.j l.invariant c.loop-j-test.true
-            (sym (fits (goal.at.returns-then-not-is_point c).After-is_point) ∙ c.if-not-is_point.true);
-      };
+      let l = c.loop-j in (
+        refl,
+        walk-stops a.m a.ks.now a.v a.ps.now a.far c.requires.reduced c.requires.far_end l.out (to_z w32 l.last-bits) l.j l.invariant c.loop-j-test.true
+            (sym (fits (goal.at.returns-then-not-is_point c).After-is_point) ∙ c.if-not-is_point.true),
+      );
 }
 
 -- it makes a point, of the grid's size
@@ -104,12 +65,6 @@ pub quotient-last-requires : goal.quotient-last-requires
 quotient-last-requires c =
     let a = c.args in
     let l = c.loop-j in let z = left_for a.m a.ks.now a.ps.now a.v l.j (to_z w32 l.last-bits) in record { d_nonzero = omega (arith, below (goal.at.quotient-last-requires c).In-loop-j); d_bound = rw (rest (goal.at.quotient-last-requires c).After-is_point) (omega (arith, point-size (a.v - get_or a.ks.now l.j 0) z (whole c))) }
-
-pub offset_bounds-out-j : goal.offset_bounds-out-j
-offset_bounds-out-j c = omega (arith, stored (goal.at.offset_bounds-out-j c).In-loop-j, c.well_formed)
-
-pub bounds-out-j : goal.bounds-out-j
-bounds-out-j c = omega (arith, stored (goal.at.bounds-out-j c).In-loop-j, c.loop-j.invariant.size, c.requires.out_len)
 
 pub loop-j-preserved : goal.loop-j-preserved
 loop-j-preserved c = let a = c.args in
