@@ -19,13 +19,13 @@ use Rattle.fault.proofs.FirstFieldLaws.{FirstField}
 use Rattle.fault.proofs.FieldFaultLaws.{at_place, fault-tag, fault-tag-alone, fault-in-length, fault-length, fault-short, fault-behind}
 use Rattle.fault.proofs.ChainLaws.{Some, needed-first, needed-some, needed-none}
 use Rattle.taken_field.specs.Taking.{ended_at, tag_at, length_at, length_ok, field_at}
-use Rattle.layout.specs.Judging.{then_field, degree_rule, knots_rule, x_rule, y_rule, from_knots, from_x, from_y, record_layout}
+use Rattle.layout.specs.Judging.{then_field, degree_rule, knots_rule, x_rule, y_rule, from_knots, from_x, from_y, sound, record_layout}
 use Rattle.taken_field.specs.declared.Rule.{Rule}
 use Rattle.taken_field.specs.declared.Break.{Break}
-use Rattle.taken_field.specs.declared.Taken.{Taken}
-use Rattle.taken_field.specs.declared.Taken.TheVariants.{Field, Broken}
+use Rattle.refusal.specs.Answers.{number_of}
+use Rattle.refusal.specs.declared.Refusal.{Refusal}
+use Rattle.std.specs.Prelude.{Result, Ok, Err}
 use Rattle.layout.specs.declared.Layout.{Layout}
-use Rattle.layout.specs.declared.Layout.TheVariants.{Sound, Broken as Unsound}
 use Rattle.layout.proofs.SplitLaws.{Whole, broken-field, three-ahead, field-known, field-split, broken-layout, layout-known, length-least, length_most, length-right}
 use Rattle.breaks.proofs.ChainLaws.{ruled, record_then}
 
@@ -33,11 +33,11 @@ use Rattle.breaks.proofs.ChainLaws.{ruled, record_then}
 pub record BreaksFrom (kind : FileKind) (bytes : List ℕ) (at : ℕ) (found : Break) : Type 0 where
   pub place : ℕ
   pub there : at + place ≡ found.place
-  pub fault : Fault kind (drop at bytes) found.number place
+  pub fault : Fault kind (drop at bytes) (number_of found.refusal) place
 
 -- a test that gives a break: it holds and this is the break, or it does not and what is judged next breaks
-broken-by : (b : Bool) (fault found : Break) (next : Taken) → cond b (Broken fault) next ≡ Broken found
-    → ((b ≡ true) × (fault ≡ found)) ⊎ ((b ≡ false) × (next ≡ Broken found))
+broken-by : (b : Bool) (fault found : Break) (next : Result ℕ Break) → cond b (Err fault) next ≡ Err found
+    → ((b ≡ true) × (fault ≡ found)) ⊎ ((b ≡ false) × (next ≡ Err found))
 broken-by true fault found next e = inl (refl, cc)
 broken-by false fault found next e = inr (refl, e)
 
@@ -52,9 +52,9 @@ octets-drop bytes octets at i = rw (get_or-drop at bytes i 0) (octets (at + i))
 
 module _ (rule : Rule) (kind next : FileKind) (first : FirstField rule.tag (length_ok rule) kind next) (bytes : List ℕ) (octets : Octets bytes) (at : ℕ) where
   -- a fault of the bytes from the place on, by what they are
-  from-here : {n p : ℕ} (w : List ℕ) (found : Break) → drop at bytes ≡ w → record { number = n; place = at + p } ≡ found → Fault kind w n p → BreaksFrom kind bytes at found
-  from-here {n} {p} w found e is_found fault =
-      subst (BreaksFrom kind bytes at) is_found (record { place = p; there = refl; fault = subst (λ (l : List ℕ). Fault kind l n p) (sym e) fault })
+  from-here : {refusal : Refusal} {p : ℕ} (w : List ℕ) (found : Break) → drop at bytes ≡ w → record { refusal = refusal; place = at + p } ≡ found → Fault kind w (number_of refusal) p → BreaksFrom kind bytes at found
+  from-here {refusal} {p} w found e is_found fault =
+      subst (BreaksFrom kind bytes at) is_found (record { place = p; there = refl; fault = subst (λ (l : List ℕ). Fault kind l (number_of refusal) p) (sym e) fault })
 
   module _ (more : at < length bytes) where
     one-ahead : drop at bytes ≡ get_or bytes at 0 ∷ drop (suc at) bytes
@@ -103,44 +103,44 @@ module _ (rule : Rule) (kind next : FileKind) (first : FirstField rule.tag (leng
             (omega (arith, size)) (octets-drop bytes octets (at + 3)))
 
   -- the judging of a field, from each of its tests on
-  abbrev contents_on : Taken
-  contents_on = cond (ltb (length bytes) (at + 3 + u16_at bytes (at + 1))) (Broken (ended_at (length bytes))) (Field (u16_at bytes (at + 1)))
+  abbrev contents_on : Result ℕ Break
+  contents_on = cond (ltb (length bytes) (at + 3 + u16_at bytes (at + 1))) (Err (ended_at (length bytes))) (Ok (u16_at bytes (at + 1)))
 
-  abbrev length_on : Taken
-  length_on = cond (not (length_ok rule (u16_at bytes (at + 1)))) (Broken (length_at (at + 1))) contents_on
+  abbrev length_on : Result ℕ Break
+  length_on = cond (not (length_ok rule (u16_at bytes (at + 1)))) (Err (length_at (at + 1))) contents_on
 
-  abbrev head_on : Taken
-  head_on = cond (ltb (length bytes) (at + 3)) (Broken (ended_at (length bytes))) length_on
+  abbrev head_on : Result ℕ Break
+  head_on = cond (ltb (length bytes) (at + 3)) (Err (ended_at (length bytes))) length_on
 
-  abbrev tag_on : Taken
-  tag_on = cond (not (eqb (get_or bytes at 0) rule.tag)) (Broken (tag_at at)) head_on
+  abbrev tag_on : Result ℕ Break
+  tag_on = cond (not (eqb (get_or bytes at 0) rule.tag)) (Err (tag_at at)) head_on
 
   module _ (found : Break) where
-    contents-break : at < length bytes → get_or bytes at 0 ≡ rule.tag → at + 3 ≤ length bytes → length_ok rule (u16_at bytes (at + 1)) ≡ true → contents_on ≡ Broken found
+    contents-break : at < length bytes → get_or bytes at 0 ≡ rule.tag → at + 3 ≤ length bytes → length_ok rule (u16_at bytes (at + 1)) ≡ true → contents_on ≡ Err found
         → BreaksFrom kind bytes at found
     contents-break more tag head right e =
         ⊎_elim (λ b. cut_off more tag head found right (ltb-true (length bytes) (at + 3 + u16_at bytes (at + 1)) b.0) b.1)
         (λ b. absurd (broken-field found (u16_at bytes (at + 1)) (sym b.1)))
-        (broken-by _ (ended_at (length bytes)) found (Field (u16_at bytes (at + 1))) e)
+        (broken-by _ (ended_at (length bytes)) found (Ok (u16_at bytes (at + 1))) e)
 
-    length-breaks : at < length bytes → get_or bytes at 0 ≡ rule.tag → at + 3 ≤ length bytes → length_on ≡ Broken found → BreaksFrom kind bytes at found
+    length-breaks : at < length bytes → get_or bytes at 0 ≡ rule.tag → at + 3 ≤ length bytes → length_on ≡ Err found → BreaksFrom kind bytes at found
     length-breaks more tag head e =
         ⊎_elim (λ b. wrong-length more tag head found (not-true _ b.0) b.1) (λ b. contents-break more tag head (not-false _ b.0) b.1)
         (broken-by _ (length_at (at + 1)) found contents_on e)
 
-    head-breaks : at < length bytes → get_or bytes at 0 ≡ rule.tag → head_on ≡ Broken found → BreaksFrom kind bytes at found
+    head-breaks : at < length bytes → get_or bytes at 0 ≡ rule.tag → head_on ≡ Err found → BreaksFrom kind bytes at found
     head-breaks more tag e =
         ⊎_elim (λ b. headless more tag found (ltb-true (length bytes) (at + 3) b.0) b.1) (λ b. length-breaks more tag (ltb-false (length bytes) (at + 3) b.0) b.1)
         (broken-by _ (ended_at (length bytes)) found length_on e)
 
-    tag-breaks : at < length bytes → tag_on ≡ Broken found → BreaksFrom kind bytes at found
+    tag-breaks : at < length bytes → tag_on ≡ Err found → BreaksFrom kind bytes at found
     tag-breaks more e =
         ⊎_elim (λ b. wrong-tag more found (eqb-false (get_or bytes at 0) rule.tag (not-true _ b.0)) b.1)
         (λ b. head-breaks more (eqb-true (get_or bytes at 0) rule.tag (not-false _ b.0)) b.1)
         (broken-by _ (tag_at at) found head_on e)
 
     -- a field that is not taken breaks where it was said; `none` is for bytes that have ended in front of it
-    pub field-breaks : at ≤ length bytes → (length bytes ≤ at → Fault kind [] ended_refused 0) → field_at rule bytes at ≡ Broken found → BreaksFrom kind bytes at found
+    pub field-breaks : at ≤ length bytes → (length bytes ≤ at → Fault kind [] ended_refused 0) → field_at rule bytes at ≡ Err found → BreaksFrom kind bytes at found
     unfolding field_at
     field-breaks inside none e =
         ⊎_elim (λ b. ended (leb-true (length bytes) at b.0) b.1) (λ b. tag-breaks (leb-false (length bytes) at b.0) b.1)
@@ -160,15 +160,15 @@ module _ (rule : Rule) (kind next : FileKind) (first : FirstField rule.tag (leng
           place = length (field_bytes rule.tag contents) + breaks.place;
           there = omega (arith, breaks.there);
           fault =
-              subst (λ (l : List ℕ). Fault kind l found.number (length (field_bytes rule.tag contents) + breaks.place)) (sym split)
+              subst (λ (l : List ℕ). Fault kind l (number_of found.refusal) (length (field_bytes rule.tag contents) + breaks.place)) (sym split)
               (fault-behind first contents (omega (arith, whole.size, knot-small bytes octets (at + 1))) (ap (length_ok rule) size ∙ whole.right) (octets-take len (drop (at + 3) bytes) (octets-drop bytes octets (at + 3)))
               (drop after bytes) breaks.fault);
         }
 
 -- what follows a field that is broken, or is taken and then broken
-taken-or-broken : (t : Taken) (next : ℕ → Layout) (found : Break) → then_field t next ≡ Unsound found → (t ≡ Broken found) ⊎ ((len : ℕ) × (t ≡ Field len) × (next len ≡ Unsound found))
-taken-or-broken (Field len) next found e = inr (len, refl, e)
-taken-or-broken (Broken fault) next found e = inl (cc)
+taken-or-broken : (t : Result ℕ Break) (next : ℕ → Result Layout Break) (found : Break) → then_field t next ≡ Err found → (t ≡ Err found) ⊎ ((len : ℕ) × (t ≡ Ok len) × (next len ≡ Err found))
+taken-or-broken (Ok len) next found e = inr (len, refl, e)
+taken-or-broken (Err fault) next found e = inl (cc)
 
 module _ (tail : FileKind) (some : Some tail) (bytes : List ℕ) (octets : Octets bytes) where
   abbrev at_y : FileKind
@@ -214,13 +214,13 @@ module _ (tail : FileKind) (some : Some tail) (bytes : List ℕ) (octets : Octet
   first_degree = needed-first degree_rule.tag (length_ok degree_rule) 1 (lit< tt) degree-right at_knots some_knots
 
   module _ (found : Break) where
-    y-breaks : (k x : ℕ) → y_field k x ≤ length bytes → from_y bytes k x ≡ Unsound found → BreaksFrom at_y bytes (y_field k x) found
+    y-breaks : (k x : ℕ) → y_field k x ≤ length bytes → from_y bytes k x ≡ Err found → BreaksFrom at_y bytes (y_field k x) found
     y-breaks k x inside e =
         ⊎_elim (field-breaks y_rule at_y tail first_y bytes octets (y_field k x) found inside (λ _. needed-none y_rule.tag (length_ok y_rule) 0 (lit< tt) y-right tail some))
         (λ t. absurd (broken-layout k x t.0 found (sym t.2)))
-        (taken-or-broken (field_at y_rule bytes (y_field k x)) (λ y. Sound k x y) found e)
+        (taken-or-broken (field_at y_rule bytes (y_field k x)) (λ y. sound k x y) found e)
 
-    x-breaks : (k : ℕ) → x_field k ≤ length bytes → from_x bytes k ≡ Unsound found → BreaksFrom at_x bytes (x_field k) found
+    x-breaks : (k : ℕ) → x_field k ≤ length bytes → from_x bytes k ≡ Err found → BreaksFrom at_x bytes (x_field k) found
     x-breaks k inside e =
         ⊎_elim (field-breaks x_rule at_x at_y first_x bytes octets (x_field k) found inside (λ _. needed-none x_rule.tag (length_ok x_rule) 0 (lit< tt) x-right at_y some_y))
         (λ t.
@@ -228,7 +228,7 @@ module _ (tail : FileKind) (some : Some tail) (bytes : List ℕ) (octets : Octet
         break-behind x_rule at_x at_y first_x bytes octets (x_field k) found t.0 (y_field k t.0) whole (omega arith) (y-breaks k t.0 (omega (arith, whole.inside)) t.2))
         (taken-or-broken (field_at x_rule bytes (x_field k)) (λ x. from_y bytes k x) found e)
 
-    knots-break : knots_field ≤ length bytes → from_knots bytes ≡ Unsound found → BreaksFrom at_knots bytes knots_field found
+    knots-break : knots_field ≤ length bytes → from_knots bytes ≡ Err found → BreaksFrom at_knots bytes knots_field found
     knots-break inside e =
         ⊎_elim (field-breaks knots_rule at_knots at_x first_knots bytes octets knots_field found inside (λ _. needed-none knots_rule.tag (length_ok knots_rule) 0 (lit< tt) knots-right at_x some_x))
         (λ t.
@@ -237,7 +237,7 @@ module _ (tail : FileKind) (some : Some tail) (bytes : List ℕ) (octets : Octet
         (taken-or-broken (field_at knots_rule bytes knots_field) (λ k. from_x bytes k) found e)
 
     -- a record that is broken, whatever may stand behind it
-    pub record-breaks : record_layout bytes ≡ Unsound found → BreaksFrom (record_then tail) bytes 0 found
+    pub record-breaks : record_layout bytes ≡ Err found → BreaksFrom (record_then tail) bytes 0 found
     unfolding record_layout
     record-breaks e =
         ⊎_elim
@@ -250,7 +250,7 @@ module _ (tail : FileKind) (some : Some tail) (bytes : List ℕ) (octets : Octet
         (taken-or-broken (field_at degree_rule bytes 0) (λ d. from_knots bytes) found e)
 
     -- a record that is not, with something broken behind it
-    pub break-behind-record : (k x y : ℕ) → record_layout bytes ≡ Sound k x y → BreaksFrom tail bytes (record_end k x y) found → BreaksFrom (record_then tail) bytes 0 found
+    pub break-behind-record : (k x y : ℕ) → record_layout bytes ≡ sound k x y → BreaksFrom tail bytes (record_end k x y) found → BreaksFrom (record_then tail) bytes 0 found
     break-behind-record k x y e breaks =
         let laid = layout-known k x y bytes e in
         break-behind degree_rule (record_then tail) at_knots first_degree bytes octets 0 found 1 knots_field laid.degree refl
@@ -259,5 +259,5 @@ module _ (tail : FileKind) (some : Some tail) (bytes : List ℕ) (octets : Octet
         (break-behind y_rule at_y tail first_y bytes octets (y_field k x) found y (record_end k x y) laid.on_y (omega arith) breaks)))
 
 -- from the front on: the break is the fault
-pub breaks-fault : {kind : FileKind} {bytes : List ℕ} {found : Break} → BreaksFrom kind bytes 0 found → Fault kind bytes found.number found.place
+pub breaks-fault : {kind : FileKind} {bytes : List ℕ} {found : Break} → BreaksFrom kind bytes 0 found → Fault kind bytes (number_of found.refusal) found.place
 breaks-fault {found = found} breaks = at_place found.place (omega (arith, breaks.there)) breaks.fault

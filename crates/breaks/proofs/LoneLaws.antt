@@ -1,4 +1,6 @@
 -- A lone record has its leftmost fault where judging finds its break, and none exactly where it is judged sound.
+use Rattle.std.specs.Prelude.{Result, Ok, Err}
+use Rattle.refusal.specs.Answers.{number_of}
 use mathlib.Core.Bool.{Bool, true, false, cond}
 use mathlib.Core.Logic.{◌⊎◌, inl, inr}
 use mathlib.Core.Path.{◌≡◌, refl, sym, ap, ◌∙◌, subst}
@@ -21,10 +23,9 @@ use Rattle.fault.proofs.OneFaultLaws.{one-fault, file-no-fault}
 use Rattle.fault.proofs.LeftOverLaws.{left-over-there}
 use Rattle.fault.proofs.ChainLaws.{SameKind, fault-same, then-fields, up_to, up_to-some, fault-left-over, row-fields}
 use Rattle.taken_field.specs.Taking.{left_over_at, length_ok}
-use Rattle.layout.specs.Judging.{y_rule, record_layout, alone, whole_record}
+use Rattle.layout.specs.Judging.{y_rule, sound, record_layout, alone, whole_record}
 use Rattle.taken_field.specs.declared.Break.{Break}
 use Rattle.layout.specs.declared.Layout.{Layout}
-use Rattle.layout.specs.declared.Layout.TheVariants.{Sound, Broken as Unsound}
 use Rattle.layout.proofs.SplitLaws.{broken-layout}
 use Rattle.layout.proofs.WholeLaws.{record-of-sound}
 use Rattle.breaks.proofs.ChainLaws.{record_then, InFields, record-fields, fields-record}
@@ -89,8 +90,8 @@ one-record w v =
     form1-injective w.m w.c [] v.m v.c [] w.storable v.storable (ap (λ (l : List ℕ). l ++ []) (sym w.same ∙ v.same))
 
 module _ (bytes : List ℕ) (octets : Octets bytes) (found : Break) where
-  behind-sound : (k x y : ℕ) → record_layout bytes ≡ Sound k x y → (b : Bool) → leb (length bytes) (record_end k x y) ≡ b
-      → cond b (Sound k x y) (Unsound (left_over_at (record_end k x y))) ≡ Unsound found → BreaksFrom (record_then nothing) bytes 0 found
+  behind-sound : (k x y : ℕ) → record_layout bytes ≡ sound k x y → (b : Bool) → leb (length bytes) (record_end k x y) ≡ b
+      → cond b (sound k x y) (Err (left_over_at (record_end k x y))) ≡ Err found → BreaksFrom (record_then nothing) bytes 0 found
   behind-sound k x y e true t a = absurd (broken-layout k x y found (sym a))
   behind-sound k x y e false t a =
       let end : ℕ = record_end k x y in
@@ -100,12 +101,12 @@ module _ (bytes : List ℕ) (octets : Octets bytes) (found : Break) where
       (subst (BreaksFrom nothing bytes end) is_found
       (record { place = 0; there = omega arith; fault = subst (λ (l : List ℕ). Fault nothing l left_over_refused 0) (sym more) (fault-left-over y_rule.tag (length_ok y_rule) _ _) }))
 
-  by_layout : (l : Layout) → record_layout bytes ≡ l → alone bytes l ≡ Unsound found → BreaksFrom (record_then nothing) bytes 0 found
-  by_layout (Sound k x y) e a = behind-sound k x y e (leb (length bytes) (record_end k x y)) refl a
-  by_layout (Unsound fault) e a = record-breaks nothing (up_to-some y_rule.tag (length_ok y_rule) 0) bytes octets found (e ∙ a)
+  by_layout : (l : Result Layout Break) → record_layout bytes ≡ l → alone bytes l ≡ Err found → BreaksFrom (record_then nothing) bytes 0 found
+  by_layout (Ok l) e a = behind-sound l.knots l.xs l.ys e (leb (length bytes) (record_end l.knots l.xs l.ys)) refl a
+  by_layout (Err fault) e a = record-breaks nothing (up_to-some y_rule.tag (length_ok y_rule) 0) bytes octets found (e ∙ a)
 
   -- bytes that are judged broken have their fault there
-  pub record-fault : whole_record bytes ≡ Unsound found → Fault lone_records bytes found.number found.place
+  pub record-fault : whole_record bytes ≡ Err found → Fault lone_records bytes (number_of found.refusal) found.place
   unfolding whole_record
   record-fault e = fault-same lone-kind bytes (breaks-fault (by_layout (record_layout bytes) refl e))
 
@@ -119,9 +120,9 @@ records-told =
           left-over-there lone_records bytes at inside full full (record-whole (take at bytes) full) (longer (take at bytes) full);
     }
   where
-    by : (bytes : List ℕ) → Octets bytes → (l : Layout) → whole_record bytes ≡ l → IsRecord form1 bytes ⊎ ((number : ℕ) × (place : ℕ) × Fault lone_records bytes number place)
-    by bytes octets (Sound k x y) e = inl (record-of-sound bytes octets k x y e)
-    by bytes octets (Unsound found) e = inr (found.number, found.place, record-fault bytes octets found e)
+    by : (bytes : List ℕ) → Octets bytes → (l : Result Layout Break) → whole_record bytes ≡ l → IsRecord form1 bytes ⊎ ((number : ℕ) × (place : ℕ) × Fault lone_records bytes number place)
+    by bytes octets (Ok l) e = inl (record-of-sound bytes octets l.knots l.xs l.ys e)
+    by bytes octets (Err found) e = inr (number_of found.refusal, found.place, record-fault bytes octets found e)
 
     longer : (front : List ℕ) → IsRecord form1 front → (b : ℕ) (rest : List ℕ) → IsRecord form1 (front ++ b ∷ rest) → ⊥
     longer front w b rest v =

@@ -14,7 +14,7 @@ use Rattle.fields.specs.Places.{u16_at}
 use Rattle.format.proofs.EntryLaws.{knots-exact}
 use Rattle.format.proofs.InjectiveLaws.{field-injective, knot-injective}
 use Rattle.taken_field.specs.Taking.{length_ok, field_at}
-use Rattle.taken_field.specs.declared.Taken.TheVariants.{Field}
+use Rattle.std.specs.Prelude.{Ok}
 use Rattle.layout.proofs.SplitLaws.{Whole, field-known, field-split, length-least, length_most, length-right}
 use Rattle.cutter.specs.Radius.{radius_tag, radius_field, radius_field_bytes}
 use Rattle.cutter.specs.Standing.{radius_rule, radius_at}
@@ -41,7 +41,7 @@ pub record RadiusThere (bytes : List ℕ) (at : ℕ) : Type 0 where
   pub inside : at + radius_field_bytes ≤ length bytes
   pub same : drop at bytes ≡ radius_field (radius_at bytes at) ++ drop (at + radius_field_bytes) bytes
 
-pub radius-known : (bytes : List ℕ) → Octets bytes → (at len : ℕ) → field_at radius_rule bytes at ≡ Field len → RadiusThere bytes at
+pub radius-known : (bytes : List ℕ) → Octets bytes → (at len : ℕ) → field_at radius_rule bytes at ≡ Ok len → RadiusThere bytes at
 radius-known bytes octets at len e =
     let whole : Whole radius_rule bytes at len = field-known radius_rule bytes at len e in
     let size : len ≡ radius_bytes = right-size len whole.right in

@@ -6,24 +6,26 @@ ghost use Rattle.taken_field.specs.Taking.{field_at};
 ghost use Rattle.cutter.specs.Radius.{radius_field_bytes};
 ghost use Rattle.cutter.specs.Standing.{radius_rule, radius_at};
 
-use taken_field::{Rule, Taken};
+use taken_field::{Break, Rule};
 
 // The tag of the field, and the bytes of the whole of it.
 const RADIUS_TAG: u8 = 6;
 
 pub const RADIUS_FIELD_BYTES: usize = grid::HEAD_BYTES + grid::RADIUS_BYTES;
 
+// What the field must be.
+const RADIUS_RULE: Rule = Rule {
+    tag: RADIUS_TAG,
+    least: grid::RADIUS_BYTES,
+    most: grid::RADIUS_BYTES,
+    width: grid::RADIUS_BYTES,
+};
+
 // Judges the field that begins at `at`.
-pub fn take_radius(bytes: &[u8], at: usize) -> Taken
+pub fn take_radius(bytes: &[u8], at: usize) -> Result<usize, Break>
     ensures answer { result ≡ field_at radius_rule bytes.now at }
 {
-    let rule = Rule {
-        tag: RADIUS_TAG,
-        least: grid::RADIUS_BYTES,
-        most: grid::RADIUS_BYTES,
-        width: grid::RADIUS_BYTES,
-    };
-    taken_field::take_field(bytes, at, rule)
+    taken_field::take_field(bytes, at, RADIUS_RULE)
 }
 
 // The radius in the field that begins at `at`.
@@ -31,5 +33,5 @@ pub fn radius_in(bytes: &[u8], at: usize) -> u32
     requires { at + radius_field_bytes ≤ length bytes.now }
     ensures answer { result ≡ radius_at bytes.now at }
 {
-    fields::get_u16(bytes, at + grid::HEAD_BYTES) as u32
+    u32::from(fields::get_u16(bytes, at + grid::HEAD_BYTES))
 }
