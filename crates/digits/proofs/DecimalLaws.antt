@@ -65,3 +65,9 @@ pub three-longer : (n : ℕ) → 1000 ≤ n → length (decimal n) ≡ length (d
 three-longer n h =
     let tenth : n / 10 / 10 / 10 ≡ n / 1000 = omega arith in
     omega (arith, decimal-longer n (omega arith), decimal-longer (n / 10) (omega arith), decimal-longer (n / 10 / 10) (omega arith), ap (λ (k : ℕ). length (decimal k)) tenth)
+
+-- a number of 32 bits has at most ten
+pub ten_digits : (n : ℕ) → n < 2 ^ 32 → length (decimal n) ≤ 10
+ten_digits n h = decimal-short 9 n (omega arith)
+
+pub ruleset digits_counted = (one-digit, two_digits, three-digits, three-longer, ten_digits)

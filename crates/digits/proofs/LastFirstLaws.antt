@@ -81,3 +81,9 @@ module _ (before : List ℕ) (at number : ℕ) (room : at + length (decimal numb
               ∙ ap (put_at before at) (sym (w.digits ∙ ap (λ (l : List ℕ). l ++ w.put) (decimal-one rest h)));
           place = refl;
         }
+
+-- there is at least one digit
+pub some_digit : (n : ℕ) → 0 < length (decimal n)
+some_digit n = (decimal-stands n).some
+
+pub ruleset digits_put = (some_digit, missing-all, missing-fewer)

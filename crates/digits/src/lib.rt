@@ -32,8 +32,10 @@ pub fn put_bytes(out: &mut [u8], at: usize, text: &[u8]) -> usize
 }
 
 // How many digits a number has; three at a time, since a division takes long.
+#[tactic(auto, using(crate::proofs::DecimalLaws::digits_counted))]
 pub fn digit_count(number: u32) -> usize
     ensures answer { result ≡ length (decimal number) }
+    ensures most { result ≤ 10 }
 {
     let mut rest = number;
     let mut count = 1;

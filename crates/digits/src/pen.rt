@@ -35,6 +35,7 @@ impl<'a> Pen<'a> {
     }
 
     // Writes a number's digits, the last one first.
+    #[tactic(auto, using(crate::proofs::LastFirstLaws::digits_put))]
     pub fn decimal(&mut self, number: u32)
         requires { self.old.at + length (decimal number) ≤ length self.old.out.now }
         ensures result { Put self.old.out.now self.old.at (decimal number) self.new.out.now self.new.at }
