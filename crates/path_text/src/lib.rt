@@ -1,4 +1,4 @@
-// Path data, piece by piece: how long its parts are, and the parts put into a lent list from a place on.
+// Path data, piece by piece: how long its parts are, and the parts written by a pen.
 #![tactic(auto)]
 
 mod measuring;

@@ -11,9 +11,7 @@ fn pairs_length(m: usize, piece: Piece) -> usize
     ensures answer { (result ≡ length (pairs_text piece.xs piece.ys 1 m)) × (result ≤ 24 * m) }
 {
     let mut total = 0;
-    let mut k = 0;
-    while k < m {
-        k += 1;
+    for k in 1..m + 1 {
         total += pair_length(piece.xs[k], piece.ys[k]);
     }
     total
@@ -22,6 +20,7 @@ fn pairs_length(m: usize, piece: Piece) -> usize
 // The move to the first point of a piece.
 pub fn move_length(piece: Piece) -> usize
     ensures answer { result ≡ length (move_text piece) }
+    ensures most { result ≤ 25 }
 {
     pair_length(piece.xs[0], piece.ys[0]) + 1
 }

@@ -4,24 +4,25 @@ ghost use Rattle.digits.specs.Letters.{space};
 ghost use Rattle.digits.specs.Put.{Put};
 ghost use Rattle.path_data.specs.Text.{letter_of};
 
+use digits::Pen;
+
 // A line, a quadratic or a cubic.
 fn letter(m: usize) -> u8
     ensures answer { result ≡ letter_of m }
 {
-    if m == 1 {
-        return b'L';
+    match m {
+        1 => b'L',
+        2 => b'Q',
+        _ => b'C',
     }
-    if m == 2 {
-        return b'Q';
-    }
-    b'C'
 }
 
-// Puts a space and the letter.
-pub fn put_letter(out: &mut [u8], at: usize, m: usize) -> usize
-    requires { at + 2 ≤ length out.old }
-    ensures result { Put out.old at (space ∷ letter_of m ∷ []) out.new result }
+// Writes a space and the letter.
+pub fn put_letter(pen: &mut Pen<'_>, m: usize)
+    requires { pen.old.at + 2 ≤ length pen.old.out.now }
+    ensures result { Put pen.old.out.now pen.old.at (space ∷ letter_of m ∷ []) pen.new.out.now pen.new.at }
+    ensures name { pen.new.out.ghost_name ≡ pen.old.out.ghost_name }
 {
-    let next = digits::put_byte(out, at, b' ');
-    digits::put_byte(out, next, letter(m))
+    pen.byte(b' ');
+    pen.byte(letter(m));
 }

@@ -1,4 +1,4 @@
--- The loop's invariant: the total is the length of the first k pairs, at most 24 bytes each.
+-- The loop's invariant: the total is the length of the pairs before point k, at most 24 bytes each.
 use mathlib.Core.Path.{◌≡◌}
 use Prim.Native.Nat.{◌*◌, ◌-◌, ◌≤◌}
 use lib.ListN.{length}
@@ -6,8 +6,4 @@ use Rattle.path_data.specs.Text.{pairs_text}
 use Rattle.path_text.proofs.measuring.pairs_length.Given as goal
 
 abbrev pub invariant-loop-k : goal.invariant-loop-k
-invariant-loop-k l =
-    (l.k ≤ l.m) × (l.total ≡ length (pairs_text l.piece.xs l.piece.ys 1 l.k)) × (l.total ≤ 24 * l.k)
-
-abbrev pub decreases-loop-k : goal.decreases-loop-k
-decreases-loop-k l = l.m - l.k
+invariant-loop-k l = (l.total ≡ length (pairs_text l.piece.xs l.piece.ys 1 (l.k - 1))) × (l.total ≤ 24 * (l.k - 1))

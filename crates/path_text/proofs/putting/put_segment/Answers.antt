@@ -6,19 +6,17 @@ use Rattle.digits.proofs.PutLaws.{two-second, two-joined}
 use Rattle.path_data.specs.Text.{letter_of, pairs_text, segment_text}
 use Rattle.path_text.proofs.putting.put_segment.Goals as goal
 
-pub put_letter-next-requires : goal.put_letter-next-requires
+pub put_letter-requires : goal.put_letter-requires
 unfolding segment_text
-put_letter-next-requires c = omega (arith, c.requires.piece_in_bounds)
+put_letter-requires c = omega (arith, c.requires.piece_in_bounds)
 
-pub put_pairs-requires : goal.put_pairs-requires
+pub put_pairs-requires-clause-m_in_bounds : goal.put_pairs-requires-clause-m_in_bounds
 unfolding segment_text
-put_pairs-requires c =
-    let a = c.args in record { m_bound = omega arith; m_in_bounds = two-second a.out.now a.at (space ∷ letter_of a.m ∷ []) (pairs_text a.piece.xs a.piece.ys 1 a.m) c.requires.piece_in_bounds c.put_letter-next.ensures.result }
+put_pairs-requires-clause-m_in_bounds c = let a = c.args in
+    two-second a.pen.now.out.now a.pen.now.at (space ∷ letter_of a.m ∷ []) (pairs_text a.piece.xs a.piece.ys 1 a.m) c.requires.piece_in_bounds c.put_letter.ensures.result
 
-pub returns : goal.returns
+pub returns-clause-result : goal.returns-clause-result
 unfolding segment_text
-returns c = record {
-  result = let a = c.args in
-      two-joined a.out.now a.at (space ∷ letter_of a.m ∷ []) (pairs_text a.piece.xs a.piece.ys 1 a.m) c.requires.piece_in_bounds
-      c.put_letter-next.ensures.result c.put_pairs.ensures.result;
-}
+returns-clause-result c = let a = c.args in
+    two-joined a.pen.now.out.now a.pen.now.at (space ∷ letter_of a.m ∷ []) (pairs_text a.piece.xs a.piece.ys 1 a.m) c.requires.piece_in_bounds
+    c.put_letter.ensures.result c.put_pairs.ensures.result

@@ -4,10 +4,8 @@ use Rattle.digits.proofs.PutLaws.{two-joined}
 use Rattle.path_data.specs.Text.{spaced_text}
 use Rattle.path_words.proofs.putting.put_pair.Goals as goal
 
-pub returns : goal.returns
-returns c = record {
-  result = let a = c.args in
-      two-joined a.out.now a.at (spaced_text a.x) (spaced_text a.y) c.requires
-      (rw (to_z-of_z c.ranges.x) at c.put_spaced-next.ensures.result)
-      (rw (to_z-of_z c.ranges.y) at c.put_spaced.ensures.result);
-}
+pub returns-clause-result : goal.returns-clause-result
+returns-clause-result c = let a = c.args in
+    two-joined a.pen.now.out.now a.pen.now.at (spaced_text a.x) (spaced_text a.y) c.requires
+    (rw (to_z-of_z c.ranges.x) at c.put_spaced.ensures.result)
+    (rw (to_z-of_z c.ranges.y) at c.put_spaced-2.ensures.result)

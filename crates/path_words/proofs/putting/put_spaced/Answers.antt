@@ -6,8 +6,6 @@ use Rattle.digits.proofs.PutLaws.{two-joined}
 use Rattle.path_data.specs.Text.{number_text}
 use Rattle.path_words.proofs.putting.put_spaced.Goals as goal
 
-pub returns : goal.returns
-returns c = record {
-  result = let a = c.args in
-      two-joined a.out.now a.at (space ∷ []) (number_text a.z) c.requires c.put_byte-next.ensures.result (rw (to_z-of_z c.ranges.z) at c.put_number.ensures.result);
-}
+pub returns-clause-result : goal.returns-clause-result
+returns-clause-result c = let a = c.args in
+    two-joined a.pen.now.out.now a.pen.now.at (space ∷ []) (number_text a.z) c.requires c.byte.ensures.result (rw (to_z-of_z c.ranges.z) at c.put_number.ensures.result)
