@@ -1,10 +1,15 @@
 -- A refused clamping hands back its number and changes nothing; an accepted one hands back the clamped curve.
+use Rattle.std.specs.Prelude.{Result, Ok, Err}
+use Rattle.std.proofs.Common.{rules}
 use mathlib.Core.Bool.{Bool, true, false, ◌&&◌}
-use mathlib.Core.Path.{◌≡◌, sym, ◌∙◌}
-use Prim.Native.Nat.{ℕ}
+use mathlib.Core.Path.{◌≡◌, sym, ap, subst, ◌∙◌}
+use Prim.Native.Nat.{ℕ, ◌<◌}
+use native.Mathlib.Omega.{arith}
 use lib.ListN.{length}
 use Rattle.refusal.specs.Numbers.{accepted, not_whole_refused, room_refused}
-use Rattle.refusal.proofs.JudgingLaws.{answered-refused}
+use Rattle.refusal.specs.Answers.{number_in, number_of, required}
+use Rattle.refusal.specs.declared.Refusal.{Refusal}
+use Rattle.refusal.proofs.AnswerLaws.{answers-refusal, refused-above_zero}
 use Rattle.curve.specs.Lists.{Lists}
 use Rattle.curve.specs.HandingOver.{enough, room_for, handed_over}
 use Rattle.curve.proofs.HandingLaws.{handed_over-refused}
@@ -13,20 +18,21 @@ use Rattle.grid.proofs.ThenLaws.{checked_then-passed, checked_then-refused}
 use Rattle.insertion.proofs.EntryLaws.{entries-length}
 use Rattle.clamping.specs.Clamping.{carrying_part, clamped_knot, clamped_number, all_whole, clamped_part, clamped, clamps_whole, clamp_then, clamp_number}
 use Rattle.clamping.proofs.ClampedLaws.{points-length}
-use Rattle.clamp_ends.specs.declared.ClampAnswer.{ClampAnswer}
-use Rattle.clamp_ends.specs.declared.ClampAnswer.TheVariants.{Clamped, Refused}
 use Rattle.clamp_ends.specs.Answer.{Outcome, ClampOutcome, part_number, PartOutcome}
 
-module _ (number : ℕ) (result before : Lists) (r : ℕ) (e : r ≡ number) where
-  pub outcome-refused : (r ≡ 0 → ⊥) → Outcome number result before (Refused r) before
-  outcome-refused h =
-      record {
-        answers = rw (← e) (sym (answered-refused Clamped Refused r (length result.xs) h));
-        hands = rw (← e) (sym (handed_over-refused r result before h));
-      }
+module _ (number : ℕ) (result before : Lists) where
+  pub outcome-refused : (e : Refusal) → number_of e ≡ number → (answer : Result ℕ Refusal) → answer ≡ Err e → (now : Lists) → now ≡ before → Outcome number result before answer now
+  outcome-refused e n answer is now k =
+      let refused : number ≡ 0 → ⊥ = λ z. (let above : 0 < number_of e = refused-above_zero e in omega (arith, n, z)) in
+      record { answers = answers-refusal number (length result.xs) answer refused (ap number_in is ∙ n); hands = k ∙ sym (handed_over-refused number result before refused) }
 
-  pub outcome-clamped : r ≡ 0 → (count : ℕ) → count ≡ length result.xs → (now : Lists) → now ≡ handed_over 0 result before → Outcome number result before (Clamped count) now
-  outcome-clamped z count long now h = let n = sym e ∙ z in record { answers = rw (n, long); hands = rw n h }
+  pub outcome-clamped : number ≡ 0 → (count : ℕ) → count ≡ length result.xs → (now : Lists) → now ≡ handed_over 0 result before → Outcome number result before (Ok count) now
+  outcome-clamped z count long now h = record { answers = (sym z, long); hands = rw z h }
+
+-- a test that is asked for has failed where its refusal came of it
+pub not-required : (fine : Bool) (refusal e : Refusal) → Err e ≡ required fine refusal → (fine ≡ false) × (e ≡ refusal)
+not-required false refusal e h = search rules
+not-required true refusal e h = search rules
 
 -- a curve whose points all carry: row 11, then row 15
 module _ (m : ℕ) (d before : Lists) where
@@ -64,6 +70,9 @@ module _ (m : ℕ) (c before : Lists) where
   number_passed h = checked_then-passed m c.knots c.xs c.ys _ h
 
   -- a curve that passes is clamped as the part of it that carries
-  pub outcome-of-part : Passes m c.knots c.xs c.ys → (answer : ClampAnswer) (now : Lists) → PartOutcome m (carrying_part m c) before answer now → ClampOutcome m c before answer now
+  pub outcome-of-part : Passes m c.knots c.xs c.ys → (n : ℕ) → n ≡ m → (d : Lists) → d ≡ carrying_part m c → (answer : Result ℕ Refusal) (now : Lists)
+      → PartOutcome n d before answer now → ClampOutcome m c before answer now
   unfolding clamped
-  outcome-of-part h answer now p = rw (number_passed h) p
+  outcome-of-part h n degree d part answer now p =
+      rw (number_passed h)
+      (subst (λ (k : ℕ). PartOutcome k (carrying_part m c) before answer now) degree (subst (λ (e : Lists). PartOutcome n e before answer now) part p))

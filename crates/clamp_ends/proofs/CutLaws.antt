@@ -1,6 +1,6 @@
 -- The parts of the lists that carry: where they lie, that both axes can be clamped, and that what is answered for them is answered for the curve.
 use mathlib.Core.List.{List}
-use mathlib.Core.Path.{◌≡◌, ap, subst}
+use mathlib.Core.Path.{◌≡◌, ap}
 use Prim.Native.Nat.{ℕ, ◌+◌, ◌-◌, ◌≤◌, ◌<◌}
 use native.Mathlib.Omega.{arith}
 use lib.IntN.{ℤ, pos}
@@ -17,9 +17,6 @@ use Rattle.clamping.proofs.EndSpanLaws.{end-spans}
 use Rattle.clamping.proofs.PartLaws.{PartFacts, part-of-passes}
 use Rattle.clamping.proofs.ClampedLaws.{range-of-grid}
 use Rattle.clamp_rows.specs.Near.{Carries}
-use Rattle.clamp_ends.specs.declared.ClampAnswer.{ClampAnswer}
-use Rattle.clamp_ends.specs.Answer.{ClampOutcome, PartOutcome}
-use Rattle.clamp_ends.proofs.AnswerLaws.{outcome-of-part}
 
 -- the first and the last span of a curve with so many points, knots and y
 pub record Found (m i j points knots ys : ℕ) : Type 0 where
@@ -73,7 +70,7 @@ module _ (m : ℕ) (c : Lists) (h : Passes m c.knots c.xs c.ys) (i j : ℕ) (is-
   abbrev cut : {A : Type 0} → ℕ → List A → List A
   cut past l = take (past - (i - m)) (drop (i - m) l)
 
-  same-part : lists (cut (j + 1 + m + 1) c.knots) (cut (j + 1) c.xs) (cut (j + 1) c.ys) ≡ carrying_part m c
+  pub same-part : lists (cut (j + 1 + m + 1) c.knots) (cut (j + 1) c.xs) (cut (j + 1) c.ys) ≡ carrying_part m c
   same-part =
       let f = found in
       let long : j + 1 + m + 1 - (i - m) ≡ j + 1 - (i - m) + m + 1 = omega (arith, f.from, f.order) in
@@ -85,9 +82,3 @@ module _ (m : ℕ) (c : Lists) (h : Passes m c.knots c.xs c.ys) (i j : ℕ) (is-
       let p = part-of-passes m c h in
       rw (ap (λ (d : Lists). d.knots) same-part, ap (λ (d : Lists). d.xs) same-part, ap (λ (d : Lists). d.ys) same-part)
       (carries-x m c (carrying_part m c) (carriers_from m c) (carriers m c) p, carries-y m c (carrying_part m c) (carriers_from m c) (carriers m c) p)
-
-  pub outcome-of-cut : (before : Lists) (answer : ClampAnswer) (now : Lists)
-      → PartOutcome m
-      (lists (take (j + 1 + m + 1 - (i - m)) (drop (i - m) c.knots)) (take (j + 1 - (i - m)) (drop (i - m) c.xs)) (take (j + 1 - (i - m)) (drop (i - m) c.ys)))
-      before answer now → ClampOutcome m c before answer now
-  outcome-of-cut before answer now o = outcome-of-part m c before h answer now (subst (λ (d : Lists). PartOutcome m d before answer now) same-part o)

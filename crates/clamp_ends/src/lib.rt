@@ -9,15 +9,11 @@ ghost use Rattle.curve.specs.Lists.{lists};
 ghost use Rattle.clamp_ends.specs.Answer.{ClampOutcome};
 
 pub use carrying::clamp_checked;
+use checked::Curve;
+use curve::Lent;
+use refusal::Refusal;
 
-// The number of points after clamping, or why it is refused.
-#[derive(Clone, Copy)]
-pub enum ClampAnswer {
-    Clamped(usize),
-    Refused(u32),
-}
-
-// The clamped curve's knots, x and y go to the three lent lists. A refusal leaves them as they were found.
+// The clamped curve's knots, x and y go to the three lent lists, and the answer is its number of points. A refusal leaves the lists as they were found.
 pub fn clamp_ends(
     degree: u32,
     knots: &[u16],
@@ -26,14 +22,16 @@ pub fn clamp_ends(
     out_knots: &mut [u16],
     out_xs: &mut [i32],
     out_ys: &mut [i32],
-) -> ClampAnswer
+) -> Result<usize, Refusal>
     ensures answer { ClampOutcome degree (lists knots.now xs.now ys.now)
         (lists out_knots.old out_xs.old out_ys.old) result
         (lists out_knots.new out_xs.new out_ys.new) }
 {
-    let number = grid::check(degree, knots, xs, ys);
-    if number != refusal::ACCEPTED {
-        return ClampAnswer::Refused(number);
-    }
-    carrying::clamp_checked(degree as usize, knots, xs, ys, out_knots, out_xs, out_ys)
+    let curve = Curve::check(degree, knots, xs, ys)?;
+    let into = Lent {
+        knots: out_knots,
+        xs: out_xs,
+        ys: out_ys,
+    };
+    clamp_checked(curve, into)
 }

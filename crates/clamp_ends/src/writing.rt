@@ -1,10 +1,8 @@
 // A clamped curve, written to the lent lists: of a curve whose every point carries a span, and whose new points have been judged.
 ghost use Rattle.std.specs.Prelude.{◌≡◌, ◌+◌, ◌≤◌, ◌<◌, length};
-ghost use Rattle.curve.specs.HandingOver.{handed_over};
-ghost use Rattle.curve.specs.Lists.{lists};
 ghost use Rattle.lent.specs.Lent.{over};
 ghost use Rattle.insertion.specs.Insertion.{entries};
-ghost use Rattle.clamping.specs.Clamping.{clamped_knot, clamped_number, whole_of, clamped_points, clamped_part};
+ghost use Rattle.clamping.specs.Clamping.{clamped_knot, clamped_number, whole_of, clamped_points};
 ghost use Rattle.clamp_rows.specs.Near.{Carries};
 
 // Point j: one of the start, one of the end, or an old one.
@@ -23,55 +21,28 @@ fn point_at(m: usize, knots: &[u16], ps: &[i32], j: usize) -> i32
 }
 
 // All points of one axis: the old ones, and over them the first m - 1 and the last m - 1.
-fn write_points(m: usize, knots: &[u16], ps: &[i32], out: &mut [i32])
+pub(crate) fn write_points(m: usize, knots: &[u16], ps: &[i32], out: &mut [i32])
     requires { Carries m knots.now ps.now × (length ps.now ≤ length out.old) }
     ensures result { out.new ≡ over (clamped_points m knots.now ps.now) out.old }
 {
     copying::copy_into(ps, out);
-    let mut k = 0;
-    while k + 1 < m {
+    for k in 0..m.saturating_sub(1) {
         out[k] = point_at(m, knots, ps, k);
         let far = ps.len() + 1 + k - m;
         out[far] = point_at(m, knots, ps, far);
-        k += 1;
     }
 }
 
 // All knots of a curve with `count` points: the old ones, and over them the m first and the m last.
-fn write_knots(m: usize, knots: &[u16], count: usize, out: &mut [u16])
+pub(crate) fn write_knots(m: usize, knots: &[u16], count: usize, out: &mut [u16])
     requires { (m < count) × (length knots.now ≡ count + m + 1) × (length knots.now ≤ length out.old) }
     ensures result { out.new ≡ over (entries (clamped_knot m knots.now count) (length knots.now)) out.old }
 {
     copying::copy_into(knots, out);
     let first = knots[m];
     let last = knots[count];
-    let mut k = 0;
-    while k < m {
+    for k in 0..m {
         out[k] = first;
         out[count + 1 + k] = last;
-        k += 1;
     }
-}
-
-// The three lists.
-pub(crate) fn write(
-    m: usize,
-    knots: &[u16],
-    xs: &[i32],
-    ys: &[i32],
-    out_knots: &mut [u16],
-    out_xs: &mut [i32],
-    out_ys: &mut [i32],
-)
-    requires carries { Carries m knots.now xs.now × Carries m knots.now ys.now }
-    requires knots_in_bounds { length knots.now ≤ length out_knots.old }
-    requires xs_in_bounds { length xs.now ≤ length out_xs.old }
-    requires ys_in_bounds { length ys.now ≤ length out_ys.old }
-    ensures result { lists out_knots.new out_xs.new out_ys.new
-        ≡ handed_over 0 (clamped_part m (lists knots.now xs.now ys.now))
-        (lists out_knots.old out_xs.old out_ys.old) }
-{
-    write_knots(m, knots, xs.len(), out_knots);
-    write_points(m, knots, xs, out_xs);
-    write_points(m, knots, ys, out_ys);
 }

@@ -10,10 +10,11 @@ ghost use Rattle.clamping.specs.Clamping.{is_whole, whole_of};
 ghost use Rattle.clamping.specs.EndRows.{mean, end_row, end_number};
 ghost use Rattle.clamp_rows.specs.Near.{Small, Sized, as_end, Near};
 
+use clamping::Share;
 pub use gathering::{finish_of, start_of};
 
 // What is read of an end: how far the first two knots inside and outside lie from the end of the domain, and the first three points.
-#[derive(Clone, Copy)]
+#[derive(Clone, Copy, PartialEq, Eq, Debug)]
 pub struct NearEnd {
     pub inside: [u64; 2],
     pub outside: [u64; 2],
@@ -29,28 +30,28 @@ fn scaled(d: u64, lower: u64, upper: i64) -> i64
 }
 
 // (d·a + e·b) / (d + e).
-fn mean_of(d: u64, a: clamping::Share, e: u64, b: clamping::Share) -> clamping::Share
+fn mean_of(d: u64, a: Share, e: u64, b: Share) -> Share
     requires e_bound { d + e ≤ knot_most }
     requires small { Small a × Small b }
     ensures answer { result ≡ mean d a e b }
 {
-    clamping::Share {
+    Share {
         upper: scaled(d, b.lower, a.upper) + scaled(e, a.lower, b.upper),
         lower: (d + e) * (a.lower * b.lower),
     }
 }
 
 // The entry k of the first row.
-fn first_row(end: NearEnd, m: usize, k: usize) -> clamping::Share
+fn first_row(end: NearEnd, m: usize, k: usize) -> Share
     requires near { Near end }
     requires k_bound { (k + 2 ≤ m) × (m ≤ 3) }
     ensures answer { result ≡ end_row (as_end end) m 1 k }
 {
-    let from = clamping::Share {
+    let from = Share {
         upper: end.point[k],
         lower: 1,
     };
-    let to = clamping::Share {
+    let to = Share {
         upper: end.point[k + 1],
         lower: 1,
     };
@@ -58,7 +59,7 @@ fn first_row(end: NearEnd, m: usize, k: usize) -> clamping::Share
 }
 
 // The k-th point of the clamped end, for a k below m - 1.
-pub fn number(end: NearEnd, m: usize, k: usize) -> clamping::Share
+pub fn number(end: NearEnd, m: usize, k: usize) -> Share
     requires near { Near end }
     requires k_bound { (k + 2 ≤ m) × (m ≤ 3) }
     ensures answer { result ≡ end_number (as_end end) m k }
@@ -76,7 +77,7 @@ pub fn number(end: NearEnd, m: usize, k: usize) -> clamping::Share
 }
 
 // Whether a number is whole.
-pub fn is_whole(a: clamping::Share) -> bool
+pub fn is_whole(a: Share) -> bool
     requires { Sized a }
     ensures answer { result ≡ is_whole a }
 {
@@ -84,7 +85,7 @@ pub fn is_whole(a: clamping::Share) -> bool
 }
 
 // A number, toward zero.
-pub fn value(a: clamping::Share) -> i32
+pub fn value(a: Share) -> i32
     requires { Sized a }
     ensures answer { result ≡ whole_of a }
 {

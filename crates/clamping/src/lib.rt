@@ -2,7 +2,7 @@
 #![tactic(auto)]
 
 // The number upper / lower.
-#[derive(Clone, Copy)]
+#[derive(Clone, Copy, PartialEq, Eq, Debug)]
 pub struct Share {
     pub upper: i64,
     pub lower: u64,

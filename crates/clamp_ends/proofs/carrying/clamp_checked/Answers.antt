@@ -1,85 +1,64 @@
--- The two spans lie inside the lists, so that the parts of the lists are there.
-use mathlib.Core.Path.{refl}
+-- A refusal leaves the lists; where both tests have passed, the writing is allowed.
+use mathlib.Core.Path.{refl, sym, ap}
+use mathlib.Core.Bool.{not}
+use Prim.Native.Nat.{◌≤◌}
 use native.Mathlib.Omega.{arith}
 use lib.ListN.{length}
-use Rattle.curve.specs.Lists.{lists}
-use Rattle.grid.proofs.SizeLaws.{sizes-of-passes}
-use Rattle.clamping.specs.Clamping.{last_span}
-use Rattle.clamp_ends.proofs.CutLaws.{Found, found, cut-carries, outcome-of-cut}
-use Rattle.clamp_ends.proofs.carrying.clamp_checked.Goals.{After-span_at-past}
+use Rattle.std.proofs.Common.{rules}
+use Rattle.refusal.specs.declared.Refusal.TheVariants.{NotWhole, Room}
+use Rattle.refusal.proofs.AnswerLaws.{required-passed}
+use Rattle.refusal.proofs.JudgingLaws.{test-failed, test-passed}
+use Rattle.curve.specs.Lists.{Lists, lists}
+use Rattle.curve.proofs.ListLaws.{lists-same}
+use Rattle.curve.proofs.RoomLaws.{enough-each}
+use Rattle.clamping.proofs.ClampedLaws.{points-length}
+use Rattle.clamp_ends.proofs.AnswerLaws.{outcome-of-part, outcome-refused, outcome-clamped, part-not-whole, part-without-room, part-accepted, not-required}
+use Rattle.clamp_ends.proofs.carrying.clamp_checked.Goals.{After-carrying_part-part, In_ok-room}
 use Rattle.clamp_ends.proofs.carrying.clamp_checked.Goals as goal
 
-pub span_at-requires : goal.span_at-requires
-span_at-requires c = let a = c.args in
-    omega (arith, (sizes-of-passes a.m a.knots.now a.xs.now a.ys.now c.requires).enough)
+-- the part that carries
+abbrev part : After-carrying_part-part → Lists
+part c = let r = c.carrying_part-part.result in lists r.knots.now r.xs.now r.ys.now
 
-pub overflow_sub-first : goal.overflow_sub-first
-overflow_sub-first c = let a = c.args in
-    (found a.m (lists a.knots.now a.xs.now a.ys.now) c.requires c.span_at.result (last_span a.m (lists a.knots.now a.xs.now a.ys.now)) c.span_at.ensures.answer refl).from
+abbrev before : After-carrying_part-part → Lists
+before c = let into = c.args.into in lists into.knots.now into.xs.now into.ys.now
 
-pub span_at-past-requires : goal.span_at-past-requires
-span_at-past-requires c = let a = c.args in
-    omega (arith, (sizes-of-passes a.m a.knots.now a.xs.now a.ys.now c.requires).enough)
+pub returns-then-not-whole_ok : goal.returns-then-not-whole_ok
+returns-then-not-whole_ok c = record {
+  answer = let a = c.args in let k = c.carrying_part-part in let s = (goal.at.returns-then-not-whole_ok c).After-carrying_part-part in
+      outcome-of-part _ _ (before s) a.curve.passes k.result.degree k.ensures.degree (part s) k.ensures.answer _ _
+      (outcome-refused _ _ _ NotWhole (part-not-whole k.result.degree (part s) (before s) (test-failed (ap not c.if-not-whole_ok.true) c.whole_ok.ensures.answer)) _ refl _ refl);
+}
 
--- where the spans lie
-spans : (c : After-span_at-past) → let a = c.args in
-    Found a.m c.span_at.result c.span_at-past.result (length a.xs.now) (length a.knots.now) (length a.ys.now)
-spans c =
-    let a = c.args in
-    found a.m (lists a.knots.now a.xs.now a.ys.now) c.requires c.span_at.result c.span_at-past.result c.span_at.ensures.answer c.span_at-past.ensures.answer
+-- there is room
+room : (c : In_ok-room) → let r = c.carrying_part-part.result in let into = c.args.into in
+    (length r.knots.now ≤ length into.knots.now) × (length r.xs.now ≤ length into.xs.now) × (length r.ys.now ≤ length into.ys.now)
+room c =
+    let r = c.carrying_part-part.result in let into = c.args.into in
+    enough-each (length r.knots.now) (length r.xs.now) (length r.ys.now) (length into.knots.now) (length into.xs.now) (length into.ys.now)
+    (required-passed _ _ _ c.in_ok-room.ensures.answer)
 
-pub overflow_add-past : goal.overflow_add-past
-overflow_add-past c = let f = spans c in omega (arith, f.from, f.order, f.to, f.degree, f.most, f.count, f.as_many)
+pub returns-in_err-room : goal.returns-in_err-room
+returns-in_err-room c = record {
+  answer = let a = c.args in let k = c.carrying_part-part in let s = (goal.at.returns-in_err-room c).After-carrying_part-part in
+      let no = not-required _ _ c.in_err-room.field-0.0 c.in_err-room.ensures.answer in
+      outcome-of-part _ _ (before s) a.curve.passes k.result.degree k.ensures.degree (part s) k.ensures.answer _ _
+      (outcome-refused _ _ _ Room (part-without-room k.result.degree (part s) (before s) (test-passed (ap not c.if-not-whole_ok.false) c.whole_ok.ensures.answer) no.0) _ (search (rules, no.1)) _ refl);
+}
 
-pub overflow_add-past-2 : goal.overflow_add-past-2
-overflow_add-past-2 c = let f = spans c in omega (arith, f.from, f.order, f.to, f.degree, f.most, f.count, f.as_many)
+pub write_knots-requires : goal.write_knots-requires
+write_knots-requires c = let x = c.carrying_part-part.result.x in (omega (arith, x.enough), x.count, (room (goal.at.write_knots-requires c).In_ok-room).0)
 
-pub overflow_add-past-3 : goal.overflow_add-past-3
-overflow_add-past-3 c = let f = spans c in omega (arith, f.from, f.order, f.to, f.degree, f.most, f.count, f.as_many)
+pub write_points-requires : goal.write_points-requires
+write_points-requires c = (c.carrying_part-part.result.x, (room (goal.at.write_points-requires c).In_ok-room).1)
 
-pub offset_bounds-knots-first : goal.offset_bounds-knots-first
-offset_bounds-knots-first c = let f = spans c in omega (arith, f.from, f.order, f.to, f.degree, f.most, f.count, f.as_many)
-
-pub slice_bounds-clamp_part-count : goal.slice_bounds-clamp_part-count
-slice_bounds-clamp_part-count c = let f = spans c in omega (arith, f.from, f.order, f.to, f.degree, f.most, f.count, f.as_many)
-
-pub slice_bounds-clamp_part-start : goal.slice_bounds-clamp_part-start
-slice_bounds-clamp_part-start c = let f = spans c in omega (arith, f.from, f.order, f.to, f.degree, f.most, f.count, f.as_many)
-
-pub slice_bounds-clamp_part-end : goal.slice_bounds-clamp_part-end
-slice_bounds-clamp_part-end c = let f = spans c in omega (arith, f.from, f.order, f.to, f.degree, f.most, f.count, f.as_many)
-
-pub offset_bounds-xs-first : goal.offset_bounds-xs-first
-offset_bounds-xs-first c = let f = spans (goal.at.offset_bounds-xs-first c).After-span_at-past in omega (arith, f.from, f.order, f.to, f.degree, f.most, f.count, f.as_many)
-
-pub slice_bounds-clamp_part-count-2 : goal.slice_bounds-clamp_part-count-2
-slice_bounds-clamp_part-count-2 c = let f = spans (goal.at.slice_bounds-clamp_part-count-2 c).After-span_at-past in omega (arith, f.from, f.order, f.to, f.degree, f.most, f.count, f.as_many)
-
-pub slice_bounds-clamp_part-start-2 : goal.slice_bounds-clamp_part-start-2
-slice_bounds-clamp_part-start-2 c = let f = spans (goal.at.slice_bounds-clamp_part-start-2 c).After-span_at-past in omega (arith, f.from, f.order, f.to, f.degree, f.most, f.count, f.as_many)
-
-pub slice_bounds-clamp_part-end-2 : goal.slice_bounds-clamp_part-end-2
-slice_bounds-clamp_part-end-2 c = let f = spans (goal.at.slice_bounds-clamp_part-end-2 c).After-span_at-past in omega (arith, f.from, f.order, f.to, f.degree, f.most, f.count, f.as_many)
-
-pub offset_bounds-ys-first : goal.offset_bounds-ys-first
-offset_bounds-ys-first c = let f = spans (goal.at.offset_bounds-ys-first c).After-span_at-past in omega (arith, f.from, f.order, f.to, f.degree, f.most, f.count, f.as_many)
-
-pub slice_bounds-clamp_part-count-3 : goal.slice_bounds-clamp_part-count-3
-slice_bounds-clamp_part-count-3 c = let f = spans (goal.at.slice_bounds-clamp_part-count-3 c).After-span_at-past in omega (arith, f.from, f.order, f.to, f.degree, f.most, f.count, f.as_many)
-
-pub slice_bounds-clamp_part-start-3 : goal.slice_bounds-clamp_part-start-3
-slice_bounds-clamp_part-start-3 c = let f = spans (goal.at.slice_bounds-clamp_part-start-3 c).After-span_at-past in omega (arith, f.from, f.order, f.to, f.degree, f.most, f.count, f.as_many)
-
-pub slice_bounds-clamp_part-end-3 : goal.slice_bounds-clamp_part-end-3
-slice_bounds-clamp_part-end-3 c = let f = spans (goal.at.slice_bounds-clamp_part-end-3 c).After-span_at-past in omega (arith, f.from, f.order, f.to, f.degree, f.most, f.count, f.as_many)
-
-pub clamp_part-requires : goal.clamp_part-requires
-clamp_part-requires c = let a = c.args in
-    cut-carries a.m (lists a.knots.now a.xs.now a.ys.now) c.requires c.span_at.result c.span_at-past.result c.span_at.ensures.answer c.span_at-past.ensures.answer
+pub write_points-requires-2 : goal.write_points-requires-2
+write_points-requires-2 c = (c.carrying_part-part.result.y, (room (goal.at.write_points-requires-2 c).In_ok-room).2)
 
 pub returns : goal.returns
 returns c = record {
-  answer = let a = c.args in
-      outcome-of-cut a.m (lists a.knots.now a.xs.now a.ys.now) c.requires c.span_at.result c.span_at-past.result c.span_at.ensures.answer c.span_at-past.ensures.answer
-      (lists a.out_knots.now a.out_xs.now a.out_ys.now) c.clamp_part.result _ c.clamp_part.ensures.answer;
+  answer = let a = c.args in let k = c.carrying_part-part in let s = (goal.at.returns c).After-carrying_part-part in
+      outcome-of-part _ _ (before s) a.curve.passes k.result.degree k.ensures.degree (part s) k.ensures.answer _ _
+      (outcome-clamped _ _ _ (sym (part-accepted k.result.degree (part s) (before s) (test-passed (ap not c.if-not-whole_ok.false) c.whole_ok.ensures.answer) (required-passed _ _ _ c.in_ok-room.ensures.answer)))
+      _ (sym (points-length k.result.degree k.result.knots.now k.result.xs.now)) _ (lists-same c.write_knots.ensures.result c.write_points.ensures.result c.write_points-2.ensures.result));
 }

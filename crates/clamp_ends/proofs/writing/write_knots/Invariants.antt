@@ -1,5 +1,4 @@
 -- The old knots are copied, and those of both ends are stored over them.
-use Prim.Native.Nat.{◌-◌}
 use lib.ListN.{length}
 use Rattle.insertion.specs.Insertion.{entries}
 use Rattle.clamping.specs.Clamping.{clamped_knot}
@@ -8,6 +7,3 @@ use Rattle.clamp_ends.proofs.writing.write_knots.Given as goal
 
 abbrev pub invariant-loop-k : goal.invariant-loop-k
 invariant-loop-k l = Mended 0 (entries (clamped_knot l.m l.knots l.count) (length l.knots)) l.initial.out l.out l.m l.k
-
-abbrev pub decreases-loop-k : goal.decreases-loop-k
-decreases-loop-k l = l.m - l.k

@@ -7,6 +7,3 @@ use Rattle.clamp_ends.proofs.writing.write_points.Given as goal
 
 abbrev pub invariant-loop-k : goal.invariant-loop-k
 invariant-loop-k l = Mended (pos 0) (clamped_points l.m l.knots l.ps) l.initial.out l.out (l.m - 1) l.k
-
-abbrev pub decreases-loop-k : goal.decreases-loop-k
-decreases-loop-k l = l.m - l.k

@@ -18,9 +18,9 @@ returns c = let whole = let ts = c.args.knots.now in
     c.gap-2.ensures.answer
     c.gap-3.ensures.answer
     c.gap-4.ensures.answer
-    (point-widened ps (n - 1) (n - 1 - 0) c.wide.result (h.range (n - 1 - 0)) (omega arith) c.wide.ensures.answer)
-    (point-widened ps (n - 2) (n - 1 - 1) c.wide-2.result (h.range (n - 1 - 1)) (omega arith) c.wide-2.ensures.answer)
-    (point-widened ps (n - 3) (n - 1 - 2) c.wide-3.result (h.range (n - 1 - 2)) (omega arith) c.wide-3.ensures.answer)
+    (point-widened ps (n - 1) (n - 1 - 0) c.from.result (h.range (n - 1 - 0)) (omega arith) c.from.ensures)
+    (point-widened ps (n - 2) (n - 1 - 1) c.from-2.result (h.range (n - 1 - 1)) (omega arith) c.from-2.ensures)
+    (point-widened ps (n - 3) (n - 1 - 2) c.from-3.result (h.range (n - 1 - 2)) (omega arith) c.from-3.ensures)
     (omega (arith, h.closes))
     (omega (arith, h.closes, h.rising (n - 2) (n - 1) (omega arith) (omega (arith, h.count))))
     (finish-near ts ps knot_most h.largest)

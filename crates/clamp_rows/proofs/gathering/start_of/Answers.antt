@@ -18,9 +18,9 @@ returns c = let whole = let m = c.args.m in
     c.gap-2.ensures.answer
     c.gap-3.ensures.answer
     c.gap-4.ensures.answer
-    (point-widened ps 0 0 c.wide.result (h.range 0) refl c.wide.ensures.answer)
-    (point-widened ps 1 1 c.wide-2.result (h.range 1) refl c.wide-2.ensures.answer)
-    (point-widened ps 2 2 c.wide-3.result (h.range 2) refl c.wide-3.ensures.answer)
+    (point-widened ps 0 0 c.from.result (h.range 0) refl c.from.ensures)
+    (point-widened ps 1 1 c.from-2.result (h.range 1) refl c.from-2.ensures)
+    (point-widened ps 2 2 c.from-3.result (h.range 2) refl c.from-3.ensures)
     (omega (arith, h.opens))
     (omega (arith, h.opens, h.rising (m + 1) (m + 2) (omega arith) (omega (arith, h.count, h.enough, c.requires.1))))
     (start-near ts ps knot_most h.largest m)
