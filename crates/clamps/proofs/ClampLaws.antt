@@ -1,4 +1,5 @@
 -- Where clamps' fields are judged sound, the bytes behind a record are some clamps' bytes, and these tell their clamps.
+use Rattle.std.specs.Prelude.{Result, Ok, Err}
 use mathlib.Core.Bool.{Bool, true, false, cond}
 use mathlib.Core.Path.{◌≡◌, refl, sym, ap, ◌∙◌}
 use mathlib.Core.List.{List, [], ◌++◌}
@@ -18,16 +19,12 @@ use Rattle.format.proofs.EntryLaws.{coordinates-exact, bits_fit, entries-all}
 use Rattle.format.proofs.InjectiveLaws.{field-injective, coordinates-injective, each-injective}
 use Rattle.taken_field.specs.Taking.{left_over_at, field_at}
 use Rattle.taken_field.specs.declared.Break.{Break}
-use Rattle.taken_field.specs.declared.Taken.{Taken}
-use Rattle.taken_field.specs.declared.Taken.TheVariants.{Field, Broken as Untaken}
 use Rattle.layout.proofs.SplitLaws.{Whole, field-known, field-split, length-least, length_most}
 use Rattle.clamps.specs.Clamp.{clamp_sides, side_bytes, clamp_field_bytes, Clamp, ClampFits, no_clamp, sides, clamp_tag, clamp_field, clamp_fields, clamp_at, clamps_at}
 use Rattle.clamps.specs.Tail.{clamp_rule, then_clamps, clamps_from}
-use Rattle.clamps.specs.declared.Tail.{Tail}
-use Rattle.clamps.specs.declared.Tail.TheVariants.{Clamps, Broken}
 use Rattle.clamps.proofs.TailLaws.{clamp-inside}
 
-pub broken-tail : (fault : Break) (n : ℕ) → Broken fault ≡ Clamps n → ⊥
+pub broken-tail : (fault : Break) (n : ℕ) → Err fault ≡ Ok n → ⊥
 broken-tail fault n e = let z : ◌≡◌ {A = ℕ} 0 1 = cc in omega arith
 
 -- clamps from a place to the end of the bytes, `many` of them
@@ -37,7 +34,7 @@ pub record Run (bytes : List ℕ) (at many : ℕ) : Type 0 where
 
 module _ (bytes : List ℕ) (octets : Octets bytes) where
   -- one field that was taken is the field of the clamp that stands there
-  field-clamp : (at len : ℕ) → field_at clamp_rule bytes at ≡ Field len → drop at bytes ≡ clamp_field (clamp_at bytes at) ++ drop (at + clamp_field_bytes) bytes
+  field-clamp : (at len : ℕ) → field_at clamp_rule bytes at ≡ Ok len → drop at bytes ≡ clamp_field (clamp_at bytes at) ++ drop (at + clamp_field_bytes) bytes
   field-clamp at len e =
       let whole : Whole clamp_rule bytes at len = field-known clamp_rule bytes at len e in
       let size : len ≡ clamp_bytes = omega (arith, length-least clamp_rule len whole.right, length_most clamp_rule len whole.right) in
@@ -52,7 +49,7 @@ module _ (bytes : List ℕ) (octets : Octets bytes) where
   run_none : (at : ℕ) → at ≤ length bytes → length bytes ≤ at → Run bytes at 0
   run_none at h k = record { ends = omega arith; same = drop_of_length-le bytes k }
 
-  run_more : (at len k : ℕ) → field_at clamp_rule bytes at ≡ Field len → Run bytes (at + clamp_field_bytes) k → Run bytes at (suc k)
+  run_more : (at len k : ℕ) → field_at clamp_rule bytes at ≡ Ok len → Run bytes (at + clamp_field_bytes) k → Run bytes at (suc k)
   run_more at len k e r =
       record {
         ends = omega (arith, r.ends);
@@ -63,29 +60,29 @@ module _ (bytes : List ℕ) (octets : Octets bytes) where
   abbrev Counted : ℕ → ℕ → ℕ → ℕ → Type 0
   Counted left at count n = (k : ℕ) × (n ≡ count + k) × (k ≤ left) × Run bytes at k
 
-  counted_none : (left at count n : ℕ) → at ≤ length bytes → leb (length bytes) at ≡ true → Clamps count ≡ Clamps n → Counted left at count n
+  counted_none : (left at count n : ℕ) → at ≤ length bytes → leb (length bytes) at ≡ true → ◌≡◌ {A = Result ℕ Break} (Ok count) (Ok n) → Counted left at count n
   counted_none left at count n inside b e =
       let same : count ≡ n = cc in
       (0, omega arith, zero-le, run_none at inside (leb-true (length bytes) at b))
 
-  counted-last : (at count n : ℕ) → at ≤ length bytes → (b : Bool) → leb (length bytes) at ≡ b → cond b (Clamps count) (Broken (left_over_at at)) ≡ Clamps n
+  counted-last : (at count n : ℕ) → at ≤ length bytes → (b : Bool) → leb (length bytes) at ≡ b → cond b (Ok count) (Err (left_over_at at)) ≡ Ok n
       → Counted 0 at count n
   counted-last at count n inside true b e = counted_none 0 at count n inside b e
   counted-last at count n inside false b e = absurd (broken-tail (left_over_at at) n e)
 
-  counted-taken : (left at count n : ℕ) (next : Tail) → (at + clamp_field_bytes ≤ length bytes → next ≡ Clamps n → Counted left (at + clamp_field_bytes) (count + 1) n)
-      → (t : Taken) → field_at clamp_rule bytes at ≡ t → then_clamps t next ≡ Clamps n → Counted (suc left) at count n
-  counted-taken left at count n next others (Untaken fault) f e = absurd (broken-tail fault n e)
-  counted-taken left at count n next others (Field len) f e =
+  counted-taken : (left at count n : ℕ) (next : Result ℕ Break) → (at + clamp_field_bytes ≤ length bytes → next ≡ Ok n → Counted left (at + clamp_field_bytes) (count + 1) n)
+      → (t : Result ℕ Break) → field_at clamp_rule bytes at ≡ t → then_clamps t next ≡ Ok n → Counted (suc left) at count n
+  counted-taken left at count n next others (Err fault) f e = absurd (broken-tail fault n e)
+  counted-taken left at count n next others (Ok len) f e =
       let rest = others (clamp-inside bytes at len f) e in
       (suc rest.0, omega (arith, rest.1), omega (arith, rest.2), run_more at len rest.0 f rest.3)
 
-  counted-more : (left at count n : ℕ) (next : Tail) → at ≤ length bytes → (at + clamp_field_bytes ≤ length bytes → next ≡ Clamps n → Counted left (at + clamp_field_bytes) (count + 1) n)
-      → (b : Bool) → leb (length bytes) at ≡ b → cond b (Clamps count) (then_clamps (field_at clamp_rule bytes at) next) ≡ Clamps n → Counted (suc left) at count n
+  counted-more : (left at count n : ℕ) (next : Result ℕ Break) → at ≤ length bytes → (at + clamp_field_bytes ≤ length bytes → next ≡ Ok n → Counted left (at + clamp_field_bytes) (count + 1) n)
+      → (b : Bool) → leb (length bytes) at ≡ b → cond b (Ok count) (then_clamps (field_at clamp_rule bytes at) next) ≡ Ok n → Counted (suc left) at count n
   counted-more left at count n next inside others true b e = counted_none (suc left) at count n inside b e
   counted-more left at count n next inside others false b e = counted-taken left at count n next others (field_at clamp_rule bytes at) refl e
 
-  pub clamps-known : (left at count n : ℕ) → at ≤ length bytes → clamps_from left bytes at count ≡ Clamps n
+  pub clamps-known : (left at count n : ℕ) → at ≤ length bytes → clamps_from left bytes at count ≡ Ok n
       → (k : ℕ) × (n ≡ count + k) × (k ≤ left) × Run bytes at k
   unfolding clamps_from
   clamps-known zero at count n inside e = counted-last at count n inside (leb (length bytes) at) refl e

@@ -1,4 +1,5 @@
 -- Closed cases, worked by hand (heading "The record on disk"): clamps as bytes and read from bytes; 64 of them, and one more.
+use Rattle.std.specs.Prelude.{Ok, Err}
 use mathlib.Core.Bool.{true, false}
 use mathlib.Core.Path.{◌≡◌, refl}
 use mathlib.Core.List.{List, [], ◌∷◌}
@@ -9,7 +10,6 @@ use Rattle.grid.specs.Rows.{on_grid, axis_ok, rectangle_ok}
 use Rattle.taken_field.specs.Taking.{tag_at, left_over_at, length_ok, field_at}
 use Rattle.clamps.specs.Clamp.{Clamp, all_sides, clamp_fields, clamps_at, clamps_ok}
 use Rattle.clamps.specs.Tail.{clamps_from, clamps_behind}
-use Rattle.clamps.specs.declared.Tail.TheVariants.{Clamps, Broken}
 
 -- x from -2 to 300 and y from -262,144 to 5; x from 7 to 8 and y from 9 to 10
 abbrev wide : Clamp
@@ -40,21 +40,21 @@ two-at-1 : clamps_at (9 ∷ two_bytes) 1 2 ≡ two
 unfolding two two_bytes
 two-at-1 = refl
 
-two-behind : clamps_behind (9 ∷ two_bytes) 1 ≡ Clamps 2
+two-behind : clamps_behind (9 ∷ two_bytes) 1 ≡ Ok 2
 unfolding clamps_from field_at length_ok two_bytes
 two-behind = refl
 
 -- no other tag begins a clamp
-tag-6 : clamps_behind (6 ∷ 16 ∷ 0 ∷ []) 0 ≡ Broken (tag_at 0)
+tag-6 : clamps_behind (6 ∷ 16 ∷ 0 ∷ []) 0 ≡ Err (tag_at 0)
 unfolding clamps_from field_at length_ok
 tag-6 = refl
 
 -- 64 clamps, 19 bytes each, and one more
-clamps-64 : clamps_behind (clamp_fields (replicate 64 small)) 0 ≡ Clamps 64
+clamps-64 : clamps_behind (clamp_fields (replicate 64 small)) 0 ≡ Ok 64
 unfolding clamps_from field_at length_ok
 clamps-64 = refl
 
-clamps-65 : clamps_behind (clamp_fields (replicate 65 small)) 0 ≡ Broken (left_over_at 1216)
+clamps-65 : clamps_behind (clamp_fields (replicate 65 small)) 0 ≡ Err (left_over_at 1216)
 unfolding clamps_from field_at length_ok
 clamps-65 = refl
 

@@ -1,4 +1,5 @@
 -- Clamps' fields are a row of fields by one rule; where judging them finds a break, there is their leftmost fault.
+use Rattle.std.specs.Prelude.{Result, Ok, Err}
 use mathlib.Core.Bool.{Bool, true, false, cond}
 use mathlib.Core.Path.{◌≡◌, refl, sym, ap, ◌∙◌, subst}
 use mathlib.Core.List.{List, [], ◌∷◌, ◌++◌}
@@ -19,15 +20,11 @@ use Rattle.fault.proofs.FirstFieldLaws.{FirstField}
 use Rattle.fault.proofs.ChainLaws.{Row, up_to, up_to-first, fault-left-over}
 use Rattle.taken_field.specs.Taking.{left_over_at, length_ok, field_at}
 use Rattle.taken_field.specs.declared.Break.{Break}
-use Rattle.taken_field.specs.declared.Taken.{Taken}
-use Rattle.taken_field.specs.declared.Taken.TheVariants.{Field, Broken as Untaken}
 use Rattle.layout.proofs.SplitLaws.{Whole, field-known, length-least, length_most, length-right}
 use Rattle.breaks.proofs.ChainLaws.{octets-coordinates}
 use Rattle.breaks.proofs.FaultLaws.{BreaksFrom, field-breaks, break-behind}
 use Rattle.clamps.specs.Clamp.{clamp_field_bytes, Clamp, ClampFits, no_clamp, sides, clamp_tag, clamp_field, clamp_fields}
 use Rattle.clamps.specs.Tail.{clamp_rule, then_clamps, clamps_from}
-use Rattle.clamps.specs.declared.Tail.{Tail}
-use Rattle.clamps.specs.declared.Tail.TheVariants.{Clamps, Broken}
 use Rattle.clamps.proofs.ClampLaws.{broken-tail}
 
 -- so many clamps' fields at most
@@ -101,7 +98,7 @@ module _ (bytes : List ℕ) (octets : Octets bytes) (found : Break) where
   first-clamp : (left : ℕ) → FirstField clamp_tag (length_ok clamp_rule) (clamps_up_to (suc left)) (clamps_up_to left)
   first-clamp left = up_to-first clamp_tag (length_ok clamp_rule) clamp_bytes (lit< tt) clamp-right left
 
-  none_left : (at count : ℕ) → (b : Bool) → leb (length bytes) at ≡ b → cond b (Clamps count) (Broken (left_over_at at)) ≡ Broken found → BreaksFrom (clamps_up_to 0) bytes at found
+  none_left : (at count : ℕ) → (b : Bool) → leb (length bytes) at ≡ b → cond b (Ok count) (Err (left_over_at at)) ≡ Err found → BreaksFrom (clamps_up_to 0) bytes at found
   none_left at count true t e = absurd (broken-tail found count (sym e))
   none_left at count false t e =
       let is_found : left_over_at at ≡ found = cc in
@@ -113,24 +110,24 @@ module _ (bytes : List ℕ) (octets : Octets bytes) (found : Break) where
         fault = subst (λ (l : List ℕ). Fault (clamps_up_to 0) l left_over_refused 0) (sym more) (fault-left-over clamp_tag (length_ok clamp_rule) (get_or bytes at 0) (drop (suc at) bytes));
       })
 
-  by_field : (left at : ℕ) (next : Tail) → at < length bytes → (at + clamp_field_bytes ≤ length bytes → next ≡ Broken found → BreaksFrom (clamps_up_to left) bytes (at + clamp_field_bytes) found)
-      → (t : Taken) → field_at clamp_rule bytes at ≡ t → then_clamps t next ≡ Broken found → BreaksFrom (clamps_up_to (suc left)) bytes at found
-  by_field left at next more others (Untaken fault) f e =
+  by_field : (left at : ℕ) (next : Result ℕ Break) → at < length bytes → (at + clamp_field_bytes ≤ length bytes → next ≡ Err found → BreaksFrom (clamps_up_to left) bytes (at + clamp_field_bytes) found)
+      → (t : Result ℕ Break) → field_at clamp_rule bytes at ≡ t → then_clamps t next ≡ Err found → BreaksFrom (clamps_up_to (suc left)) bytes at found
+  by_field left at next more others (Err fault) f e =
       field-breaks clamp_rule (clamps_up_to (suc left)) (clamps_up_to left) (first-clamp left) bytes octets at found (omega arith) (λ over. absurd (omega arith))
-      (f ∙ (let same : fault ≡ found = cc in ap Untaken same))
-  by_field left at next more others (Field len) f e =
+      (f ∙ (let same : fault ≡ found = cc in ap Err same))
+  by_field left at next more others (Ok len) f e =
       let whole : Whole clamp_rule bytes at len = field-known clamp_rule bytes at len f in
       let size : len ≡ clamp_bytes = omega (arith, length-least clamp_rule len whole.right, length_most clamp_rule len whole.right) in
       break-behind clamp_rule (clamps_up_to (suc left)) (clamps_up_to left) (first-clamp left) bytes octets at found len (at + clamp_field_bytes) whole (omega arith)
       (others (omega (arith, whole.inside)) e)
 
-  by_end : (left at count : ℕ) (next : Tail) → (at + clamp_field_bytes ≤ length bytes → next ≡ Broken found → BreaksFrom (clamps_up_to left) bytes (at + clamp_field_bytes) found)
-      → (b : Bool) → leb (length bytes) at ≡ b → cond b (Clamps count) (then_clamps (field_at clamp_rule bytes at) next) ≡ Broken found → BreaksFrom (clamps_up_to (suc left)) bytes at found
+  by_end : (left at count : ℕ) (next : Result ℕ Break) → (at + clamp_field_bytes ≤ length bytes → next ≡ Err found → BreaksFrom (clamps_up_to left) bytes (at + clamp_field_bytes) found)
+      → (b : Bool) → leb (length bytes) at ≡ b → cond b (Ok count) (then_clamps (field_at clamp_rule bytes at) next) ≡ Err found → BreaksFrom (clamps_up_to (suc left)) bytes at found
   by_end left at count next others true t e = absurd (broken-tail found count (sym e))
   by_end left at count next others false t e = by_field left at next (leb-false (length bytes) at t) others (field_at clamp_rule bytes at) refl e
 
   -- clamps that break, from a place on
-  pub clamps-break : (left at count : ℕ) → at ≤ length bytes → clamps_from left bytes at count ≡ Broken found → BreaksFrom (clamps_up_to left) bytes at found
+  pub clamps-break : (left at count : ℕ) → at ≤ length bytes → clamps_from left bytes at count ≡ Err found → BreaksFrom (clamps_up_to left) bytes at found
   unfolding clamps_from
   clamps-break zero at count inside e = none_left at count (leb (length bytes) at) refl e
   clamps-break (suc left) at count inside e =

@@ -6,9 +6,10 @@ ghost use Rattle.lent.specs.Lent.{over};
 ghost use Rattle.grid.specs.Rows.{rectangle_ok};
 ghost use Rattle.fields.specs.Places.{put_at};
 ghost use Rattle.clamps.specs.Clamp.{clamp_sides, clamp_field_bytes, clamp_at, clamps_at, clamps_ok, sides, all_sides};
-ghost use Rattle.clamps.specs.Tail.{clamp_rule, clamps_behind};
+ghost use Rattle.clamps.specs.Tail.{clamps_behind};
 
-use taken_field::{Break, Rule, Taken};
+use refusal::Refusal;
+use taken_field::{Break, Rule};
 
 // The tag of a clamp's field; the sides of a clamp and the bytes of each; and the bytes of the whole field.
 const CLAMP_TAG: u8 = 5;
@@ -19,49 +20,33 @@ const SIDE_BYTES: usize = 4;
 
 const CLAMP_FIELD_BYTES: usize = grid::HEAD_BYTES + grid::CLAMP_BYTES;
 
-// How many clamps there are, or the leftmost fault.
-#[derive(Clone, Copy)]
-pub enum Tail {
-    Clamps(usize),
-    Broken(Break),
-}
-
 // What a clamp's field must be.
-fn clamp_rule() -> Rule
-    ensures answer { result ≡ clamp_rule }
-{
-    Rule {
-        tag: CLAMP_TAG,
-        least: grid::CLAMP_BYTES,
-        most: grid::CLAMP_BYTES,
-        width: grid::CLAMP_BYTES,
-    }
-}
+const CLAMP_RULE: Rule = Rule {
+    tag: CLAMP_TAG,
+    least: grid::CLAMP_BYTES,
+    most: grid::CLAMP_BYTES,
+    width: grid::CLAMP_BYTES,
+};
 
-// The clamps' fields from `start` on.
-pub fn clamps_behind(bytes: &[u8], start: usize) -> Tail
+// How many clamps' fields stand from `start` to the end of the bytes.
+pub fn clamps_behind(bytes: &[u8], start: usize) -> Result<usize, Break>
     ensures answer { result ≡ clamps_behind bytes.now start }
 {
     let mut at = start;
     let mut count = 0;
+    // The bytes' end ends the walk, not a count: a range would need a second test of the end behind it.
     while at < bytes.len() {
         if count == grid::CLAMPS_MOST {
-            return Tail::Broken(Break {
-                number: refusal::LEFT_OVER,
+            return Err(Break {
+                refusal: Refusal::LeftOver,
                 place: at,
             });
         }
-        match taken_field::take_field(bytes, at, clamp_rule()) {
-            Taken::Broken(fault) => {
-                return Tail::Broken(fault);
-            }
-            Taken::Field(_) => {
-                at += CLAMP_FIELD_BYTES;
-                count += 1;
-            }
-        }
+        taken_field::take_field(bytes, at, CLAMP_RULE)?;
+        at += CLAMP_FIELD_BYTES;
+        count += 1;
     }
-    Tail::Clamps(count)
+    Ok(count)
 }
 
 // Row 14 for the clamp whose field begins at `at`.
@@ -88,14 +73,10 @@ pub fn clamps_ok(bytes: &[u8], start: usize, count: usize) -> bool
     requires { start + clamp_field_bytes * count ≤ length bytes.now }
     ensures answer { result ≡ clamps_ok (clamps_at bytes.now start count) }
 {
-    let mut at = start;
-    let mut i = 0;
-    while i < count {
-        if !clamp_ok(bytes, at) {
+    for i in 0..count {
+        if !clamp_ok(bytes, start + CLAMP_FIELD_BYTES * i) {
             return false;
         }
-        at += CLAMP_FIELD_BYTES;
-        i += 1;
     }
     true
 }
@@ -113,13 +94,7 @@ pub fn read_clamps(bytes: &[u8], start: usize, count: usize, out: &mut [i32])
     requires { (start + clamp_field_bytes * count ≤ length bytes.now) × (clamp_sides * count ≤ length out.old) }
     ensures result { out.new ≡ over (all_sides (clamps_at bytes.now start count)) out.old }
 {
-    let mut at = start;
-    let mut to = 0;
-    let mut i = 0;
-    while i < count {
-        put_sides(bytes, at, out, to);
-        at += CLAMP_FIELD_BYTES;
-        to += CLAMP_SIDES;
-        i += 1;
+    for i in 0..count {
+        put_sides(bytes, start + CLAMP_FIELD_BYTES * i, out, CLAMP_SIDES * i);
     }
 }

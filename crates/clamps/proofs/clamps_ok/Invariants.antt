@@ -1,12 +1,8 @@
--- The loop's invariant: the whole answer is that of the clamps not yet looked at.
+-- The whole answer is that of the clamps not yet looked at.
 use mathlib.Core.Path.{◌≡◌}
-use Prim.Native.Nat.{◌+◌, ◌*◌, ◌-◌, ◌≤◌}
+use Prim.Native.Nat.{◌+◌, ◌*◌, ◌-◌}
 use Rattle.clamps.specs.Clamp.{clamp_field_bytes, clamps_at, clamps_ok}
 use Rattle.clamps.proofs.clamps_ok.Given as goal
 
 abbrev pub invariant-loop-i : goal.invariant-loop-i
-invariant-loop-i l =
-    (l.i ≤ l.count) × (l.at ≡ l.start + clamp_field_bytes * l.i) × (clamps_ok (clamps_at l.bytes l.start l.count) ≡ clamps_ok (clamps_at l.bytes l.at (l.count - l.i)))
-
-abbrev pub decreases-loop-i : goal.decreases-loop-i
-decreases-loop-i l = l.count - l.i
+invariant-loop-i l = clamps_ok (clamps_at l.bytes l.start l.count) ≡ clamps_ok (clamps_at l.bytes (l.start + clamp_field_bytes * l.i) (l.count - l.i))
