@@ -2,89 +2,77 @@
 // a new list is cleared, and the longest would cost a curve of four points more than all the rest of its reading.
 #![tactic(auto)]
 
-ghost use Rattle.std.specs.Prelude.{true, ◌≡◌, ◌/◌, length};
+ghost use Rattle.std.specs.Prelude.{true, Ok, ◌≡◌, ◌≤◌, ◌+◌, ◌/◌, length};
 ghost use Rattle.grid.specs.Limits.{points_most};
 ghost use Rattle.curve.specs.HandingOver.{enough};
+ghost use Rattle.refusal.specs.Answers.{number_in};
 ghost use Rattle.layout.specs.Judging.{record_layout};
-ghost use Rattle.layout.specs.declared.Layout.TheVariants.{Sound};
-ghost use Rattle.stored_check.specs.StoredNumber.{number_in, HeldBy, short_points, middle_points};
+ghost use Rattle.stored_check.specs.StoredNumber.{number_in as stored_number, HeldBy};
+
+use layout::Layout;
+use refusal::Refusal;
 
 // The points that short and middle lists hold; the longest hold any curve. A curve has at most four knots more than points.
 const SHORT: usize = 16;
 
+const SHORT_KNOTS: usize = SHORT + 4;
+
 const MIDDLE: usize = 64;
 
-// The number for the curve, read into lists that are long enough for it.
-fn number_in(
+const MIDDLE_KNOTS: usize = MIDDLE + 4;
+
+const LONGEST: usize = grid::POINTS_MOST;
+
+const LONGEST_KNOTS: usize = LONGEST + 4;
+
+// The check of the curve, read into lists that are long enough for it.
+fn check_in(
     bytes: &[u8],
-    knots: usize,
-    xs: usize,
-    ys: usize,
+    layout: Layout,
     ts: &mut [u16],
     us: &mut [i32],
     ws: &mut [i32],
-) -> u32
-    requires bytes_value { record_layout bytes.now ≡ Sound knots xs ys }
-    requires ws_value { enough (knots / 2) (xs / 4) (ys / 4) (length ts.old) (length us.old) (length ws.old) ≡ true }
-    ensures answer { result ≡ number_in bytes.now knots xs ys }
+) -> Result<(), Refusal>
+    requires bytes_value { record_layout bytes.now ≡ Ok layout }
+    requires room { enough (layout.knots / 2) (layout.xs / 4) (layout.ys / 4) (length ts.old) (length us.old) (length ws.old) ≡ true }
+    ensures answer { number_in result ≡ stored_number bytes.now layout.knots layout.xs layout.ys }
 {
-    stored_curve::read_lists(bytes, knots, xs, ys, ts, us, ws);
-    let knot_count = knots / 2;
-    let x_count = xs / 4;
-    let y_count = ys / 4;
+    stored_curve::read_lists(bytes, layout, ts, us, ws);
     let degree = stored_curve::degree_in(bytes);
-    grid::check(degree, &ts[..knot_count], &us[..x_count], &ws[..y_count])
+    grid::check(
+        degree,
+        &ts[..layout.knots / 2],
+        &us[..layout.xs / 4],
+        &ws[..layout.ys / 4],
+    )
 }
 
-// The number through short lists.
-fn number_short(bytes: &[u8], knots: usize, xs: usize, ys: usize) -> u32
-    requires bytes_value { record_layout bytes.now ≡ Sound knots xs ys }
-    requires held_by { HeldBy short_points knots xs ys }
-    ensures answer { result ≡ number_in bytes.now knots xs ys }
+// The check through lists for N points and for N + 4 knots, which are K.
+fn check_within<const K: usize, const N: usize>(bytes: &[u8], layout: Layout) -> Result<(), Refusal>
+    requires size { (K ≡ N + 4) × (N ≤ points_most) }
+    requires bytes_value { record_layout bytes.now ≡ Ok layout }
+    requires held_by { HeldBy N layout.knots layout.xs layout.ys }
+    ensures answer { number_in result ≡ stored_number bytes.now layout.knots layout.xs layout.ys }
 {
-    let mut ts = [0u16; SHORT + 4];
-    let mut us = [0i32; SHORT];
-    let mut ws = [0i32; SHORT];
-    number_in(bytes, knots, xs, ys, &mut ts, &mut us, &mut ws)
+    let mut ts = [0u16; K];
+    let mut us = [0i32; N];
+    let mut ws = [0i32; N];
+    check_in(bytes, layout, &mut ts, &mut us, &mut ws)
 }
 
-// The number through middle lists.
-fn number_middle(bytes: &[u8], knots: usize, xs: usize, ys: usize) -> u32
-    requires bytes_value { record_layout bytes.now ≡ Sound knots xs ys }
-    requires held_by { HeldBy middle_points knots xs ys }
-    ensures answer { result ≡ number_in bytes.now knots xs ys }
+// The check of the curve that stands in bytes with this layout: nothing, or the refusal with the lowest of the numbers 1 to 7 that applies.
+pub fn curve_number(bytes: &[u8], layout: Layout) -> Result<(), Refusal>
+    requires { record_layout bytes.now ≡ Ok layout }
+    ensures answer { number_in result ≡ stored_number bytes.now layout.knots layout.xs layout.ys }
 {
-    let mut ts = [0u16; MIDDLE + 4];
-    let mut us = [0i32; MIDDLE];
-    let mut ws = [0i32; MIDDLE];
-    number_in(bytes, knots, xs, ys, &mut ts, &mut us, &mut ws)
-}
-
-// The number through the longest lists.
-fn number_longest(bytes: &[u8], knots: usize, xs: usize, ys: usize) -> u32
-    requires bytes_value { record_layout bytes.now ≡ Sound knots xs ys }
-    requires held_by { HeldBy points_most knots xs ys }
-    ensures answer { result ≡ number_in bytes.now knots xs ys }
-{
-    let mut ts = [0u16; grid::POINTS_MOST + 4];
-    let mut us = [0i32; grid::POINTS_MOST];
-    let mut ws = [0i32; grid::POINTS_MOST];
-    number_in(bytes, knots, xs, ys, &mut ts, &mut us, &mut ws)
-}
-
-// The check's number for the curve in fields of `knots`, `xs` and `ys` bytes.
-pub fn curve_number(bytes: &[u8], knots: usize, xs: usize, ys: usize) -> u32
-    requires { record_layout bytes.now ≡ Sound knots xs ys }
-    ensures answer { result ≡ number_in bytes.now knots xs ys }
-{
-    let knot_count = knots / 2;
-    let x_count = xs / 4;
-    let y_count = ys / 4;
-    if curve::room_for(knot_count, x_count, y_count, SHORT + 4, SHORT, SHORT) {
-        return number_short(bytes, knots, xs, ys);
+    let knots = layout.knots / 2;
+    let xs = layout.xs / 4;
+    let ys = layout.ys / 4;
+    if curve::room_for(knots, xs, ys, SHORT_KNOTS, SHORT, SHORT) {
+        return check_within::<SHORT_KNOTS, SHORT>(bytes, layout);
     }
-    if curve::room_for(knot_count, x_count, y_count, MIDDLE + 4, MIDDLE, MIDDLE) {
-        return number_middle(bytes, knots, xs, ys);
+    if curve::room_for(knots, xs, ys, MIDDLE_KNOTS, MIDDLE, MIDDLE) {
+        return check_within::<MIDDLE_KNOTS, MIDDLE>(bytes, layout);
     }
-    number_longest(bytes, knots, xs, ys)
+    check_within::<LONGEST_KNOTS, LONGEST>(bytes, layout)
 }

@@ -1,9 +1,10 @@
--- Whichever lists are taken hold the fields; the longest hold any.
+-- The longest lists hold any fields.
 use Rattle.curve.proofs.RoomLaws.{enough-all}
 use Rattle.layout.proofs.SplitLaws.{layout-within}
 use native.Mathlib.Omega.{arith}
 use Rattle.stored_check.proofs.curve_number.Goals as goal
 
-pub number_longest-requires : goal.number_longest-requires
-number_longest-requires c =
-    let most = layout-within c.args.bytes.now c.args.knots c.args.xs c.args.ys c.requires in record { bytes_value = c.requires; held_by = enough-all _ _ _ _ _ _ (omega (arith, most)) (omega (arith, most)) (omega (arith, most)) }
+pub check_within-requires-2-clause-held_by : goal.check_within-requires-2-clause-held_by
+check_within-requires-2-clause-held_by c =
+    let l = c.args.layout in
+    let most = layout-within c.args.bytes.now l.knots l.xs l.ys c.requires in enough-all _ _ _ _ _ _ (omega (arith, most)) (omega (arith, most)) (omega (arith, most))

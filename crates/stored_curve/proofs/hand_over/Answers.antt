@@ -1,18 +1,15 @@
--- 15 and nothing, or the lists that were read.
-use mathlib.Core.Path.{refl, ◌∙◌}
+-- Refused for room and nothing changed, or the lists that were read.
+use Rattle.std.proofs.Common.{rules}
 use Rattle.curve.specs.Lists.{lists}
-use Rattle.refusal.proofs.JudgingLaws.{test-failed, test-passed}
-use Rattle.layout.proofs.StoredLaws.{stored-room}
-use mathlib.Core.Path.{ap}
-use mathlib.Core.Bool.{not}
+use Rattle.stored_curve.proofs.RoomLaws.{room_told}
 use Rattle.stored_curve.proofs.hand_over.Goals as goal
 
-pub returns-then-not-room_for : goal.returns-then-not-room_for
-returns-then-not-room_for c =
+pub returns-in_err-room-clause-answer : goal.returns-in_err-room-clause-answer
+returns-in_err-room-clause-answer c =
     let a = c.args in
-    let fits = stored-room a.bytes.now a.knots a.xs a.ys (lists a.out_knots.now a.out_xs.now a.out_ys.now) in record { answer = rw (fits ∙ test-failed (ap not c.if-not-room_for.true) c.room_for.ensures.answer); result = refl }
+    let h = room_told a.bytes.now a.layout.knots a.layout.xs a.layout.ys (lists a.into.knots.now a.into.xs.now a.into.ys.now) _ c.in_err-room.ensures.answer in search rules
 
-pub returns : goal.returns
-returns c =
+pub returns-clause-answer : goal.returns-clause-answer
+returns-clause-answer c =
     let a = c.args in
-    let fits = stored-room a.bytes.now a.knots a.xs a.ys (lists a.out_knots.now a.out_xs.now a.out_ys.now) in record { answer = rw (fits ∙ test-passed (ap not c.if-not-room_for.false) c.room_for.ensures.answer); result = c.read_lists.ensures.result }
+    room_told a.bytes.now a.layout.knots a.layout.xs a.layout.ys (lists a.into.knots.now a.into.xs.now a.into.ys.now) _ c.in_ok-room.ensures.answer

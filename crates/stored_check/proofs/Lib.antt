@@ -1,0 +1,2 @@
+-- Verdict and value fix a reader's answer.
+pub mod ToldLaws

@@ -1,0 +1,2 @@
+-- What room the lists of a stored curve need.
+pub mod RoomLaws
