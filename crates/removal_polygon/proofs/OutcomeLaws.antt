@@ -1,5 +1,5 @@
 -- Both axes on the fewer knots: what the answers of the two say of a polygon.
-use mathlib.Core.Bool.{Bool, true, false, true≢false}
+use Rattle.std.specs.Prelude.{Result, Ok, Err}
 use mathlib.Core.List.{List, ◌++◌}
 use mathlib.Core.Path.{◌≡◌, sym, ap, ◌∙◌}
 use Prim.Native.Nat.{ℕ, suc, ◌+◌, ◌-◌}
@@ -8,8 +8,9 @@ use lib.IntN.{ℤ}
 use lib.ListN.{length, take, drop}
 use Rattle.curve.specs.Lists.{lists}
 use Rattle.insertion.specs.Insertion.{knots_up_to}
+use Rattle.refusal.specs.declared.Refusal.{Refusal}
 use Rattle.removal.specs.Removal.{without_one}
-use Rattle.removal.specs.Axis.{Reduced}
+use Rattle.removal.specs.Axis.{Reduced, AxisReinserts}
 use Rattle.removal_walk.specs.Walk.{AxisOutcome}
 use Rattle.removal.specs.Polygon.{Inner}
 use Rattle.removal_polygon.specs.Outcome.{PolygonOutcome}
@@ -27,27 +28,18 @@ module _ (m : ℕ) (ts : List ℕ) (xs ys : List ℤ) (v : ℕ) (inner : Inner m
       (ap (λ (l : List ℕ). take (knots_up_to v (without_one v ts)) l ++ drop (suc (knots_up_to v (without_one v ts))) l) (sym (fewer-inserted m ts xs ys v inner))
       ∙ inserted-parts v (without_one v ts))
 
-module _ (m : ℕ) (ts : List ℕ) (xs ys : List ℤ) (v : ℕ) (inner : Inner m ts xs ys v) (ks : List ℕ) (e : ks ≡ without_one v ts) where
+module _ (m : ℕ) (ts : List ℕ) (xs ys : List ℤ) (v : ℕ) (inner : Inner m ts xs ys v) (ks : List ℕ) (e_ks : ks ≡ without_one v ts) where
   pub outcome-reduced : (ps : List ℤ) → length ps ≡ length xs → Reduced m ks (length ps - 1) v
-  outcome-reduced ps size = rw e (fewer-reduced m ts xs ys v inner ps size)
+  outcome-reduced ps size = rw e_ks (fewer-reduced m ts xs ys v inner ps size)
 
   -- no coordinates for x
-  pub outcome-no-x : (px py : List ℤ) (r : Bool) → AxisOutcome m ks v xs px r → r ≡ false → PolygonOutcome m (lists ts xs ys) v (lists ks px py) false
-  outcome-no-x px py r axis h =
-      record {
-        found = λ t. absurd (true≢false (sym t));
-        none = λ t p.
-            let d = p.without in
-            axis.none h d.xs (rw (e ∙ sym p.removes.fewer) (reinserts-xs m v d.knots d.xs d.ys ts xs ys p.removes));
-      }
+  pub outcome-no-x : (px py : List ℤ) (answer : Result (Unit {0}) Refusal) (e : Refusal) → answer ≡ Err e → AxisOutcome m ks v xs px (Err e)
+      → PolygonOutcome m (lists ts xs ys) v (lists ks px py) answer
+  outcome-no-x px py answer e is axis =
+      rw is (axis.0, λ p. let d = p.without in axis.1 d.xs (rw (e_ks ∙ sym p.removes.fewer) (reinserts-xs m v d.knots d.xs d.ys ts xs ys p.removes)))
 
   -- coordinates for x: y decides
-  pub outcome-by-y : (px py : List ℤ) (rx ry : Bool) → AxisOutcome m ks v xs px rx → rx ≡ true → AxisOutcome m ks v ys py ry
-      → PolygonOutcome m (lists ts xs ys) v (lists ks px py) ry
-  outcome-by-y px py rx ry x h y =
-      record {
-        found = λ t. rw e (polygon-removes m ts xs ys v inner px py (rw e at (x.found h)) (rw e at (y.found t)));
-        none = λ t p.
-            let d = p.without in
-            y.none t d.ys (rw (e ∙ sym p.removes.fewer) (reinserts-ys m v d.knots d.xs d.ys ts xs ys p.removes));
-      }
+  pub outcome-by-y : (px py : List ℤ) (r : Result (Unit {0}) Refusal) → AxisReinserts m ks px v xs → AxisOutcome m ks v ys py r
+      → PolygonOutcome m (lists ts xs ys) v (lists ks px py) r
+  outcome-by-y px py (Ok done) x y = rw e_ks (polygon-removes m ts xs ys v inner px py (rw e_ks at x) (rw e_ks at y))
+  outcome-by-y px py (Err e) x y = (y.0, λ p. let d = p.without in y.1 d.ys (rw (e_ks ∙ sym p.removes.fewer) (reinserts-ys m v d.knots d.xs d.ys ts xs ys p.removes)))
