@@ -1,5 +1,4 @@
 -- What writing and reading a record answer.
 pub mod Writing
 pub mod Reading
-pub mod StoredRecord
 pub mod Sentences
