@@ -3,7 +3,7 @@ use mathlib.Core.Bool.{Bool, true, false, cond}
 use mathlib.Core.List.{List, [], ◌∷◌, ◌++◌}
 use mathlib.Core.Path.{◌≡◌, refl, ◌∙◌, ap}
 use Prim.Native.Nat.{ℕ, zero, suc, ◌+◌, ◌-◌, ◌≤◌, ◌<◌}
-use native.Mathlib.Nat.{add-suc, add-zero, suc-add}
+use native.Mathlib.Nat.{add-suc, add-zero, suc-add, sub_self}
 use native.Mathlib.Omega.{arith}
 use lib.ListN.{length, length-append}
 use Rattle.span_walk.specs.SpansMet.{up_from, keep}
@@ -31,6 +31,19 @@ keep-up_to test m i h =
     let e : i + 1 - m ≡ suc (i - m) = omega arith in
     let f : m + (i - m) ≡ i = omega arith in
     rw (e, up_from-next m (i - m), f) (keep_append test (up_from m (i - m)) (i ∷ []))
+
+-- how many are kept, one number more at a time
+pub count_none : (test : ℕ → Bool) (m : ℕ) → length (keep test (up_from m (m - m))) ≡ 0
+unfolding keep up_from
+count_none test m = rw (sub_self m)
+
+pub count_passed : (test : ℕ → Bool) (m i : ℕ) → m ≤ i → test i ≡ true → length (keep test (up_from m (i + 1 - m))) ≡ length (keep test (up_from m (i - m))) + 1
+count_passed test m i h e = rw (keep-up_to test m i h, e) (length-append (keep test (up_from m (i - m))) (i ∷ []))
+
+pub count_failed : (test : ℕ → Bool) (m i : ℕ) → m ≤ i → test i ≡ false → length (keep test (up_from m (i + 1 - m))) ≡ length (keep test (up_from m (i - m)))
+count_failed test m i h e = rw (keep-up_to test m i h, e) (rw (length-append (keep test (up_from m (i - m))) []) (omega arith))
+
+pub ruleset counting = (count_none, count_passed, count_failed)
 
 -- a test that passes less often keeps fewer
 pub keep-fewer : (test wide : ℕ → Bool) → ((i : ℕ) → test i ≡ true → wide i ≡ true) → (l : List ℕ) → length (keep test l) ≤ length (keep wide l)

@@ -5,7 +5,6 @@ use mathlib.Core.Path.{◌≡◌, sym, ◌∙◌}
 use Prim.Native.Nat.{ℕ, ◌+◌, ◌≤◌, ◌<◌}
 use native.Mathlib.Nat.{sub_self}
 use native.Mathlib.Omega.{arith}
-use borrow.Author.Rules.{rules}
 use lib.IntN.{ℤ}
 use lib.ListN.{length, get_or, length-append}
 use Rattle.refusal.proofs.JudgingLaws.{both}
@@ -15,18 +14,16 @@ use Rattle.span_walk.proofs.KeepLaws.{keep-up_to, keep-room}
 use Rattle.span_walk.proofs.SpanListLaws.{span-lists-same}
 use Rattle.span_listing.proofs.ListingLaws.{written_none, written_next}
 use Rattle.span_listing.proofs.list_met.Invariants.{listed}
-use Rattle.span_listing.proofs.list_met.Goals.{Then-met, else-met, then-met}
+use Rattle.span_listing.proofs.list_met.Goals.{Then-meets, else-meets, then-meets}
 use Rattle.span_listing.proofs.list_met.Goals as goal
 
 pub loop-i-init : goal.loop-i-init
 unfolding up_from keep
-loop-i-init c = let a = c.args in
-    let none = sub_self a.m in (
-      search rules,
-      search rules,
+loop-i-init c = let a = c.args.curve in
+    let none = sub_self a.degree in (
       rw none,
-      rw none (written_none (λ k. get_or a.knots.now k 0) a.lows.now),
-      rw none (written_none (λ k. get_or a.knots.now (k + 1) 0) a.highs.now),
+      rw none (written_none (λ k. get_or a.knots.now k 0) c.args.lows.now),
+      rw none (written_none (λ k. get_or a.knots.now (k + 1) 0) c.args.highs.now),
     )
 
 -- a span that is listed next has its place
@@ -36,43 +33,43 @@ unfolding span_count
 place-left clamp m ts xs ys i at from below count met =
     rw count (keep-room (to_check clamp m ts xs ys) (non_empty ts) (λ k h. (both _ _ h).0) m i (length xs) from below met)
 
-room : (c : Then-met) → c.loop-i.at < span_count c.args.m c.args.knots.now (length c.args.xs.now)
+room : (c : Then-meets) → c.loop-i.at < span_count c.args.curve.degree c.args.curve.knots.now (length c.args.curve.xs.now)
 room c =
-    let turn = c.loop-i in let a = c.args in
-    place-left a.clamp a.m a.knots.now a.xs.now a.ys.now turn.i turn.at turn.invariant.0 (omega arith) turn.invariant.2 (sym c.meets-met.ensures.answer ∙ c.if-met.true)
+    let turn = c.loop-i in let a = c.args.curve in
+    place-left c.args.clamp a.degree a.knots.now a.xs.now a.ys.now turn.i turn.at (omega arith) (omega arith) turn.invariant.0 (sym c.meets.ensures.answer ∙ c.if-meets.true)
 
 pub bounds-lows-at : goal.bounds-lows-at
-bounds-lows-at c = omega (arith, room (goal.at.bounds-lows-at c).Then-met)
+bounds-lows-at c = omega (arith, room (goal.at.bounds-lows-at c).Then-meets)
 
 pub bounds-highs-at : goal.bounds-highs-at
-bounds-highs-at c = omega (arith, room (goal.at.bounds-highs-at c).Then-met)
+bounds-highs-at c = omega (arith, room (goal.at.bounds-highs-at c).Then-meets)
 
 pub loop-i-preserved : goal.loop-i-preserved
-loop-i-preserved c = let a = c.args in
-    let at = c.loop-i in let test = to_check a.clamp a.m a.knots.now a.xs.now a.ys.now in
-    let before = listed a.clamp a.m a.knots.now a.xs.now a.ys.now at.i in
-    let next = keep-up_to test a.m at.i at.invariant.0 in
-    elim c.if-met.branch [
-      | then-met w ↦
-          let met : test at.i ≡ true = sym c.meets-met.ensures.answer ∙ w.if-met.true in
-          let fits = place-left a.clamp a.m a.knots.now a.xs.now a.ys.now at.i at.at at.invariant.0 (omega arith) at.invariant.2 met in (
-            omega arith,
-            omega arith,
+loop-i-preserved c = let a = c.args.curve in
+    let at = c.loop-i in let test = to_check c.args.clamp a.degree a.knots.now a.xs.now a.ys.now in
+    let before = listed c.args.clamp a.degree a.knots.now a.xs.now a.ys.now at.i in
+    let next = keep-up_to test a.degree at.i (omega arith) in
+    elim c.if-meets.branch [
+      | then-meets w ↦
+          let met : test at.i ≡ true = sym c.meets.ensures.answer ∙ w.if-meets.true in
+          let fits = place-left c.args.clamp a.degree a.knots.now a.xs.now a.ys.now at.i at.at (omega arith) (omega arith) at.invariant.0 met in (
             rw (next, met, length-append before (at.i ∷ [])) (omega (arith, w.at-is)),
-            rw (next, met) (written_next at.invariant.3 at.i at.at _ w.lows-is at.invariant.2 (omega arith)),
-            rw (next, met) (written_next at.invariant.4 at.i at.at _ w.highs-is at.invariant.2 (omega arith)),
+            rw (next, met) (written_next at.invariant.1 at.i at.at _ w.lows-is at.invariant.0 (omega arith)),
+            rw (next, met) (written_next at.invariant.2 at.i at.at _ w.highs-is at.invariant.0 (omega arith)),
           )
-      | else-met w ↦
-          let passed : test at.i ≡ false = sym c.meets-met.ensures.answer ∙ w.if-met.false in (
-            omega arith,
-            omega arith,
-            rw (next, passed, append-nil before) (w.at-is ∙ at.invariant.2),
-            rw (next, passed, append-nil before, w.lows-is) at.invariant.3,
-            rw (next, passed, append-nil before, w.highs-is) at.invariant.4,
+      | else-meets w ↦
+          let passed : test at.i ≡ false = sym c.meets.ensures.answer ∙ w.if-meets.false in (
+            rw (next, passed, append-nil before) (w.at-is ∙ at.invariant.0),
+            rw (next, passed, append-nil before, w.lows-is) at.invariant.1,
+            rw (next, passed, append-nil before, w.highs-is) at.invariant.2,
           )
     ]
 
-pub returns : goal.returns
+pub returns-clause-count : goal.returns-clause-count
+unfolding spans_met
+returns-clause-count c = let all : c.loop-i.i ≡ length c.args.curve.xs.now = omega arith in rw (← all) c.loop-i.invariant.0
+
+pub returns-clause-result : goal.returns-clause-result
 unfolding spans_met low_knots high_knots
-returns c =
-    let at = c.loop-i in let all : at.i ≡ length c.args.xs.now = omega arith in record { count = rw (← all) (at.invariant.2); result = rw (← all) (span-lists-same at.invariant.3.holds at.invariant.4.holds) }
+returns-clause-result c =
+    let at = c.loop-i in let all : at.i ≡ length c.args.curve.xs.now = omega arith in rw (← all) (span-lists-same at.invariant.1.holds at.invariant.2.holds)

@@ -1,7 +1,7 @@
 -- After each span the lists hold the knots of the spans to check so far; each has its place, since those are no more than the non-empty ones.
 use mathlib.Core.List.{List}
 use mathlib.Core.Path.{◌≡◌}
-use Prim.Native.Nat.{ℕ, ◌+◌, ◌-◌, ◌≤◌}
+use Prim.Native.Nat.{ℕ, ◌+◌, ◌-◌}
 use lib.IntN.{ℤ}
 use lib.ListN.{length, get_or}
 use Rattle.boxes.specs.declared.Rectangle.{Rectangle}
@@ -15,11 +15,8 @@ listed clamp m ts xs ys i = keep (to_check clamp m ts xs ys) (up_from m (i - m))
 
 abbrev pub invariant-loop-i : goal.invariant-loop-i
 invariant-loop-i l =
-    (l.m ≤ l.i)
-    × (l.i ≤ length l.xs)
-    × (l.at ≡ length (listed l.clamp l.m l.knots l.xs l.ys l.i))
-    × Written (λ k. get_or l.knots k 0) (listed l.clamp l.m l.knots l.xs l.ys l.i) l.initial.lows l.lows
-    × Written (λ k. get_or l.knots (k + 1) 0) (listed l.clamp l.m l.knots l.xs l.ys l.i) l.initial.highs l.highs
-
-abbrev pub decreases-loop-i : goal.decreases-loop-i
-decreases-loop-i l = length l.xs - l.i
+    let c = l.curve in
+    let spans = listed l.clamp c.degree c.knots.now c.xs.now c.ys.now l.i in
+    (l.at ≡ length spans)
+    × Written (λ k. get_or c.knots.now k 0) spans l.initial.lows l.lows
+    × Written (λ k. get_or c.knots.now (k + 1) 0) spans l.initial.highs l.highs
