@@ -12,6 +12,7 @@ use lib.Dec.{leb, eqb-suc-zero}
 use lib.IntN.{ℤ}
 use lib.ListN.{length}
 use lib.Signed.{le_z, ◌≤ℤ◌}
+use Rattle.refusal.proofs.AnswerLaws.{answers-value}
 use Rattle.refusal.proofs.JudgingLaws.{unless-accepted, both}
 use Rattle.curve.specs.Lists.{Lists}
 use Rattle.grid.specs.Check.{check_number, Passes}
@@ -67,7 +68,7 @@ success-lists-spans m c clamp radius before e =
     let room = accepted-says m c clamp radius before e in
     let knots = knots-of-each-span (widened radius clamp) m c.knots c.xs c.ys in
     let hands = success-hands-spans (knots_met (widened radius clamp) m c.knots c.xs c.ys) before (omega (arith, knots.count-lows, room.lows)) (omega (arith, knots.count-highs, room.highs)) in
-    record { answer = rw e; lows = rw e hands.0; highs = rw e hands.1 }
+    record { answer = λ answer says. answers-value (list_number m c clamp radius before) _ answer says e; lows = rw e hands.0; highs = rw e hands.1 }
 
 -- sides that pass row 14 are in order
 axis-order : (low high : ℤ) → axis_ok low high ≡ true → low ≤ℤ high
@@ -108,4 +109,4 @@ accepted-list-is-exact m c clamp radius before e i =
     (reaches clamp radius m c.knots c.xs c.ys i sides, reached clamp radius m c.knots c.xs c.ys i sides)
 
 pub refusal-lists-nothing : RefusalListsNothing
-refusal-lists-nothing m c clamp radius before n e = (rw (e, eqb-suc-zero n), rw (e, eqb-suc-zero n))
+refusal-lists-nothing m c clamp radius before n e = (λ answer says. says.0 ∙ e, rw (e, eqb-suc-zero n))

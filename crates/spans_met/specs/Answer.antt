@@ -1,7 +1,8 @@
 -- What the list call answers (headings "Spans to check", "Numbers of refusal"): 1 to 7, then 22, 14 and 15; else the number of spans.
 -- `m` is the degree, `c` the curve's lists, `clamp` the rectangle, `radius` the cutter's: the clamp is widened by it before the boxes are tested.
-use Rattle.std.specs.Prelude.{◌&&◌, ℕ, leb, length}
-use Rattle.refusal.specs.Judging.{unless, answered}
+use Rattle.std.specs.Prelude.{◌&&◌, Result, ℕ, leb, length}
+use Rattle.refusal.specs.Answers.{Answers}
+use Rattle.refusal.specs.Judging.{unless}
 use Rattle.refusal.specs.Numbers.{accepted, radius_refused, rectangle_refused, room_refused}
 use Rattle.curve.specs.Lists.{Lists}
 use Rattle.grid.specs.Check.{checked_then}
@@ -10,8 +11,7 @@ use Rattle.span_walk.specs.SpansMet.{span_count, spans_met}
 use Rattle.span_walk.specs.SpanLists.{SpanLists, knots_met, spans_handed_over}
 use Rattle.boxes.specs.Widening.{widened}
 use Rattle.boxes.specs.declared.Rectangle.{Rectangle}
-use Rattle.spans_met.specs.declared.SpansAnswer.{SpansAnswer}
-use Rattle.spans_met.specs.declared.SpansAnswer.TheVariants.{Listed, Refused}
+use Rattle.refusal.specs.declared.Refusal.{Refusal}
 
 -- the number of refusal where the two lent lists have so many places: each must have as many as there are non-empty spans
 unfoldable pub number_with_places : ℕ → Lists → Rectangle → ℕ → ℕ → ℕ → ℕ
@@ -25,10 +25,10 @@ number_with_places m c clamp radius low_places high_places =
 abbrev pub list_number : ℕ → Lists → Rectangle → ℕ → SpanLists → ℕ  -- the number of refusal with these lent lists
 list_number m c clamp radius lent = number_with_places m c clamp radius (length lent.lows) (length lent.highs)
 
--- the answer: how many spans were listed, or the number of refusal
-abbrev pub list_answer : ℕ → Lists → Rectangle → ℕ → SpanLists → SpansAnswer
-list_answer m c clamp radius lent =
-    answered Listed Refused (list_number m c clamp radius lent) (length (spans_met (widened radius clamp) m c.knots c.xs c.ys))
+-- the answer: how many spans were listed, or the refusal with the number
+abbrev pub ListAnswer : ℕ → Lists → Rectangle → ℕ → SpanLists → Result ℕ Refusal → Type 0
+ListAnswer m c clamp radius lent answer =
+    Answers (list_number m c clamp radius lent) (length (spans_met (widened radius clamp) m c.knots c.xs c.ys)) answer
 
 -- the two lent lists afterwards: the two knots of each span to check in front, or as they were found
 abbrev pub listed : ℕ → Lists → Rectangle → ℕ → SpanLists → SpanLists

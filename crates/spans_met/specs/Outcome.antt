@@ -1,5 +1,7 @@
 -- What the list call answers and leaves in the two lent lists, in sentences (headings "Spans to check", "Numbers of refusal").
-use Rattle.std.specs.Prelude.{List, ◌↔◌, ◌≡◌, ℕ, suc, ◌+◌, ◌≤◌, ◌<◌, ℤ, length, get_or}
+use Rattle.std.specs.Prelude.{List, Result, Ok, ◌↔◌, ◌≡◌, ℕ, suc, ◌+◌, ◌≤◌, ◌<◌, ℤ, length, get_or}
+use Rattle.refusal.specs.Answers.{number_in}
+use Rattle.refusal.specs.declared.Refusal.{Refusal}
 use Rattle.lent.specs.Sentences.{ResultThenRest}
 use Rattle.curve.specs.Lists.{Lists}
 use Rattle.boxes.specs.Sentences.{Near}
@@ -8,12 +10,11 @@ use Rattle.boxes.specs.declared.Rectangle.{Rectangle}
 use Rattle.span_walk.specs.SpansMet.{spans_met}
 use Rattle.span_walk.specs.SpanLists.{SpanLists, knots_met}
 use Rattle.span_walk.specs.Sentences.{InBox, Stands}
-use Rattle.spans_met.specs.declared.SpansAnswer.TheVariants.{Listed, Refused}
-use Rattle.spans_met.specs.Answer.{list_number, list_answer, listed}
+use Rattle.spans_met.specs.Answer.{list_number, ListAnswer, listed}
 
 -- where nothing is refused: the answer is how many spans are to be checked, and each list holds one knot of each in front and then what it held
 pub record ListedSpans (m : ℕ) (c : Lists) (clamp : Rectangle) (radius : ℕ) (before : SpanLists) : Type 0 where
-  pub answer : list_answer m c clamp radius before ≡ Listed (length (spans_met (widened radius clamp) m c.knots c.xs c.ys))
+  pub answer : (answer : Result ℕ Refusal) → ListAnswer m c clamp radius before answer → answer ≡ Ok (length (spans_met (widened radius clamp) m c.knots c.xs c.ys))
   pub lows : ResultThenRest (knots_met (widened radius clamp) m c.knots c.xs c.ys).lows before.lows (listed m c clamp radius before).lows
   pub highs : ResultThenRest (knots_met (widened radius clamp) m c.knots c.xs c.ys).highs before.highs (listed m c clamp radius before).highs
 
@@ -43,4 +44,4 @@ AcceptedListIsExact =
 abbrev pub RefusalListsNothing : Type 0
 RefusalListsNothing =
     (m : ℕ) (c : Lists) (clamp : Rectangle) (radius : ℕ) (before : SpanLists) (n : ℕ) → list_number m c clamp radius before ≡ suc n
-    → (list_answer m c clamp radius before ≡ Refused (suc n)) × (listed m c clamp radius before ≡ before)
+    → ((answer : Result ℕ Refusal) → ListAnswer m c clamp radius before answer → number_in answer ≡ suc n) × (listed m c clamp radius before ≡ before)
