@@ -1,6 +1,6 @@
 -- A loop that looks at every entry and lowers a flag at each one that is wrong: what the flag says of the entries that were passed.
-use mathlib.Core.Bool.{Bool, true, false, true≢false, false≢true}
-use mathlib.Core.Path.{◌≡◌, refl, sym, ◌∙◌}
+use mathlib.Core.Bool.{Bool, true, false, ◌&&◌, true≢false, false≢true}
+use mathlib.Core.Path.{◌≡◌, refl, sym}
 use Prim.Native.Nat.{ℕ, ◌+◌, ◌≤◌, ◌<◌}
 use native.Mathlib.Omega.{arith}
 use borrow.Author.Count.{below_more}
@@ -11,26 +11,20 @@ pub record Flagged (Wrong : ℕ → Type 0) (first i : ℕ) (fine : Bool) : Type
   pub none : fine ≡ true → (j : ℕ) → j < i → first ≤ j → Wrong j → ⊥
   pub one : fine ≡ false → (j : ℕ) × (j < i) × (first ≤ j) × Wrong j
 
-pub flagged-none : (Wrong : ℕ → Type 0) (first : ℕ) → Flagged Wrong first first true
-flagged-none Wrong first =
-    record { begun = omega arith; none = λ e j i l w. absurd (omega arith); one = λ e. absurd (true≢false e) }
-
-module _ {Wrong : ℕ → Type 0} {first i : ℕ} {fine : Bool} (s : Flagged Wrong first i fine) (flag : Bool) where
-  -- entry i is wrong, and the flag is lowered
-  pub flagged-wrong : Wrong i → flag ≡ false → Flagged Wrong first (i + 1) flag
-  flagged-wrong w e =
+-- entry i is tested, and the flag stands where it stood and the test passes
+module _ (Wrong : ℕ → Type 0) (first i : ℕ) where
+  pub flagged_more : (fine test : Bool) → Flagged Wrong first i fine → (test ≡ true → Wrong i → ⊥) → (test ≡ false → Wrong i)
+      → Flagged Wrong first (i + 1) (fine && test)
+  flagged_more true true s right wrong =
       let here = s.begun in
-      record { begun = omega arith; none = λ f. absurd (false≢true (sym e ∙ f)); one = λ f. (i, omega arith, here, w) }
-
-  -- it is not, and the flag stays
-  pub flagged-right : (Wrong i → ⊥) → flag ≡ fine → Flagged Wrong first (i + 1) flag
-  flagged-right right e =
+      record { begun = omega arith; none = λ f. below_more (λ j. first ≤ j → Wrong j → ⊥) i (s.none refl) (λ l. right refl); one = λ f. absurd (true≢false f) }
+  flagged_more true false s right wrong =
       let here = s.begun in
-      record {
-        begun = omega arith;
-        none = λ f. below_more (λ j. first ≤ j → Wrong j → ⊥) i (s.none (sym e ∙ f)) (λ l. right);
-        one = λ f. let o = s.one (sym e ∙ f) in (o.0, omega (arith, o.1), o.2, o.3);
-      }
+      record { begun = omega arith; none = λ f. absurd (false≢true f); one = λ f. (i, omega arith, here, wrong refl) }
+  flagged_more false test s right wrong =
+      let here = s.begun in
+      let o = s.one refl in
+      record { begun = omega arith; none = λ f. absurd (false≢true f); one = λ f. (o.0, omega (arith, o.1), o.2, o.3) }
 
 -- a test that cannot pass fails, and one that cannot fail passes
 pub fails : (test : Bool) → (test ≡ true → ⊥) → test ≡ false

@@ -3,29 +3,22 @@ ghost use Rattle.std.specs.Prelude.{◌≤◌, ◌≡◌, length};
 ghost use Rattle.grid.specs.Limits.{points_most};
 ghost use Rattle.grid.specs.Rows.{degree_ok, point_count_ok, knot_count_ok};
 
+#[tactic(auto, unfolding(crate::specs::Rows::degree_ok))]
 pub(crate) fn degree_ok(degree: u32) -> bool
     ensures answer { result ≡ degree_ok degree }
 {
-    if degree < 1 {
-        return false;
-    }
-    degree <= 3
+    (1..=3).contains(&degree)
 }
 
+#[tactic(auto, unfolding(crate::specs::Rows::point_count_ok))]
 pub(crate) fn point_count_ok(m: usize, xs: &[i32], ys: &[i32]) -> bool
     requires { m ≤ 3 }
     ensures answer { result ≡ point_count_ok m xs.now ys.now }
 {
-    let points = xs.len();
-    if points != ys.len() {
-        return false;
-    }
-    if points < m + 1 {
-        return false;
-    }
-    points <= crate::POINTS_MOST
+    xs.len() == ys.len() && m + 1 <= xs.len() && xs.len() <= crate::POINTS_MOST
 }
 
+#[tactic(auto, unfolding(crate::specs::Rows::knot_count_ok))]
 pub(crate) fn knot_count_ok(m: usize, knots: &[u16], xs: &[i32]) -> bool
     requires { (m ≤ 3) × (length xs.now ≤ points_most) }
     ensures answer { result ≡ knot_count_ok m knots.now xs.now }

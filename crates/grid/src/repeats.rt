@@ -9,12 +9,8 @@ fn none_again(knots: &[u16], first: usize, past: usize, back: usize) -> bool
     ensures answer { ToldOfAgain knots.now first past back result }
 {
     let mut fine = true;
-    let mut i = first;
-    while i < past {
-        if knots[i] == knots[i - back] {
-            fine = false;
-        }
-        i += 1;
+    for k in first..past {
+        fine &= knots[k] != knots[k - back];
     }
     fine
 }
@@ -30,11 +26,7 @@ pub(crate) fn repeats_ok(m: usize, knots: &[u16]) -> bool
     let more = m + 1;
     let inner = m + more;
     let end = knots.len() - more;
-    if !none_again(knots, more, inner, more) {
-        return false;
-    }
-    if !none_again(knots, end + 1, knots.len(), more) {
-        return false;
-    }
-    none_again(knots, inner, end, m)
+    none_again(knots, more, inner, more)
+        && none_again(knots, end + 1, knots.len(), more)
+        && none_again(knots, inner, end, m)
 }
