@@ -2,12 +2,13 @@
 use mathlib.Core.Path.{refl}
 use native.Mathlib.Omega.{arith}
 use lib.ListN.{length}
+use Rattle.std.specs.Prelude.{Ok}
+use Rattle.curve.specs.Lists.{Lists}
 use Rattle.curve.specs.HandingOver.{handed_over}
 use Rattle.curve.proofs.HandingLaws.{ends-done}
 use Rattle.insertion.specs.Insertion.{inserted}
 use Rattle.insertion.proofs.ResultLaws.{inserted-passes}
 use Rattle.removal.proofs.SentenceLaws.{inserted-is-removed, removal-takes-one}
-use Rattle.remove_knot.specs.declared.RemoveAnswer.TheVariants.{Removed, Refused}
 use Rattle.removal.specs.Outcome.{RemovalComesTo, removed}
 use Rattle.remove_knot.specs.Sentences.{InsertedIsHandedBack}
 use Rattle.removal.proofs.JudgedLaws.{number-of-inner}
@@ -25,5 +26,5 @@ inserted-is-handed-back m c v lent before answer now h room outcome =
       present = omega (arith, takes.once);
     }) in
     let comes : RemovalComesTo m (inserted m c v) v before 0 c = removed number back (rw room) in
-    removal-determined m (inserted m c v) v before answer (Removed (length c.xs)) now (handed_over 0 c before) outcome
-    (ends-done (RemovalComesTo m (inserted m c v) v before) (λ d. Removed (length d.xs)) Refused before 0 c comes (handed_over 0 c before) refl refl)
+    removal-determined m (inserted m c v) v before answer (Ok (length c.xs)) now (handed_over 0 c before) outcome
+    (ends-done (RemovalComesTo m (inserted m c v) v before) (λ (d : Lists). length d.xs) before 0 c comes (handed_over 0 c before) refl refl)

@@ -1,48 +1,36 @@
--- A refusal leaves the lists; else v is an inner knot, and the work lists are long enough for any curve that passes the check.
+-- A refusal leaves the lists; else v is an inner knot, and what is left is handed over.
 use mathlib.Core.Path.{sym, ◌∙◌}
 use native.Mathlib.Omega.{arith}
-use lib.ListN.{length}
-use Rattle.curve.specs.Lists.{Lists, lists}
-use Rattle.grid.proofs.SizeLaws.{sizes-of-passes}
-use Rattle.removal.specs.Polygon.{Inner}
-use Rattle.curve.proofs.HandingLaws.{ends-untouched}
-use Rattle.remove_knot.specs.declared.RemoveAnswer.TheVariants.{Removed, Refused}
-use Rattle.removal.specs.Outcome.{RemovalComesTo, refused}
-use Rattle.removal.proofs.JudgedLaws.{inner-of-number}
-use Rattle.remove_knot.proofs.OutcomeLaws.{outcome-of-handed}
-use Rattle.remove_knot.proofs.remove_knot.Goals.{Else-number-ne-ACCEPTED}
+use Rattle.std.proofs.Common.{rules, length}
+use Rattle.checked.proofs.CheckedLaws.{checked-of-passes}
+use Rattle.remove_knot.proofs.OutcomeLaws.{inner-of-inner_ok, removal_unchecked, removal_not_inner, removal_none, removal_cramped, removal_done}
 use Rattle.remove_knot.proofs.remove_knot.Goals as goal
 
--- v is an inner knot of a curve that passes the check
-inner : (c : Else-number-ne-ACCEPTED) → Inner c.args.degree c.args.knots.now c.args.xs.now c.args.ys.now c.args.v
-inner c =
-    let a = c.args in
-    inner-of-number a.degree a.knots.now a.xs.now a.ys.now a.v (sym c.judge-number.ensures.answer ∙ c.if-number-ne-ACCEPTED.false)
+pub returns-in_err-curve : goal.returns-in_err-curve
+returns-in_err-curve c = record { answer = removal_unchecked _ _ _ _ _ c.in_err-curve.field-0.0 (search rules) c.in_err-curve.ensures.answer }
 
-pub returns-then-number-ne-ACCEPTED : goal.returns-then-number-ne-ACCEPTED
-returns-then-number-ne-ACCEPTED c = record {
-  answer = let a = c.args in
-      let j = c.judge-number in ends-untouched (RemovalComesTo a.degree (lists a.knots.now a.xs.now a.ys.now) a.v (lists a.out_knots.now a.out_xs.now a.out_ys.now)) (λ (d : Lists). Removed (length d.xs)) Refused (lists a.out_knots.now a.out_xs.now a.out_ys.now) j.result (lists a.knots.now a.xs.now a.ys.now) (refused (λ e. c.if-number-ne-ACCEPTED.true (j.ensures.answer ∙ e)) j.ensures.answer) c.if-number-ne-ACCEPTED.true;
-}
+pub returns-then-not-inner_ok : goal.returns-then-not-inner_ok
+returns-then-not-inner_ok c = record { answer = removal_not_inner _ _ _ _ (search rules) (search rules) }
 
 pub overflow_cast-v : goal.overflow_cast-v
-overflow_cast-v c = let a = c.args in
-    omega (arith, (inner c).high, c.type_inv.knots (length a.xs.now))
+overflow_cast-v c =
+    let r = c.in_ok-curve.curve in
+    omega (arith, (inner-of-inner_ok _ _ _ _ _ r.passes (sym c.inner_ok.ensures.answer ∙ c.if-not-inner_ok.false)).high, (checked-of-passes _ _ _ _ r.passes).largest (length r.xs.now) (omega (arith, r.sizes.knots)))
 
-pub remove_within-handed-requires : goal.remove_within-handed-requires
-remove_within-handed-requires c =
-    let i = inner (goal.at.remove_within-handed-requires c).Else-number-ne-ACCEPTED in
-    let a = c.args in
-    let z = sizes-of-passes a.degree a.knots.now a.xs.now a.ys.now i.passes in record { inner = i; knots_in_bounds = omega (arith, z.knots, z.most, z.degree-most); xs_in_bounds = omega (arith, z.most); ys_in_bounds = omega (arith, z.most, z.as_many) }
+pub remove_polygon-requires-clause-inner : goal.remove_polygon-requires-clause-inner
+remove_polygon-requires-clause-inner c = inner-of-inner_ok _ _ _ _ _ c.in_ok-curve.curve.passes (sym c.inner_ok.ensures.answer ∙ c.if-not-inner_ok.false)
 
-pub overflow_sub-xs : goal.overflow_sub-xs
-overflow_sub-xs c = let i = inner (goal.at.overflow_sub-xs c).Else-number-ne-ACCEPTED in
-    let a = c.args in
-    omega (arith, (sizes-of-passes a.degree a.knots.now a.xs.now a.ys.now i.passes).enough)
+pub returns-in_err-remove_polygon : goal.returns-in_err-remove_polygon
+returns-in_err-remove_polygon c = record {
+  answer = removal_none _ _ _ _ (inner-of-inner_ok _ _ _ _ _ (search rules) (search rules)) _ c.in_err-remove_polygon.field-0.0 (search rules) (search rules);
+}
+
+pub returns-in_err-receive : goal.returns-in_err-receive
+returns-in_err-receive c = record {
+  answer = removal_cramped _ _ _ _ (inner-of-inner_ok _ _ _ _ _ (search rules) (search rules)) _ (search rules) _ _ c.in_err-receive.field-0.0 (search rules) c.in_err-receive.ensures.answer c.in_err-receive.ensures.result;
+}
 
 pub returns : goal.returns
 returns c = record {
-  answer = let a = c.args in
-      let h = c.remove_within-handed in outcome-of-handed a.degree (lists a.knots.now a.xs.now a.ys.now) a.v (lists a.out_knots.now a.out_xs.now a.out_ys.now) h.result
-      (lists h.new.out_knots h.new.out_xs h.new.out_ys) c.answer.result h.ensures.answer c.answer.ensures.answer;
+  answer = removal_done _ _ _ _ (inner-of-inner_ok _ _ _ _ _ (search rules) (search rules)) _ (search rules) _ c.in_ok-receive.ensures.answer c.in_ok-receive.ensures.result;
 }

@@ -1,16 +1,15 @@
 -- Inside the domain, and the last knot up to v is v.
-use mathlib.Core.Bool.{true}
-use mathlib.Core.Path.{◌≡◌}
+use mathlib.Core.Bool.{true, not}
+use mathlib.Core.Path.{◌≡◌, ap}
 use native.Mathlib.Omega.{arith}
 use lib.ListN.{length}
 use Rattle.refusal.proofs.JudgingLaws.{test-failed, test-passed}
 use Rattle.span.specs.Span.{strictly_inside}
+use Rattle.checked.proofs.CheckedLaws.{checked-of-passes}
 use Rattle.grid.proofs.CheckLaws.{passes-tests}
 use Rattle.insertion.proofs.CheckedLaws.{inside-ends, insertable-xs}
 use Rattle.insertion.proofs.SpanLaws.{up_to-least}
 use Rattle.removal.specs.Judged.{inner_ok}
-use mathlib.Core.Path.{ap}
-use mathlib.Core.Bool.{not}
 use Rattle.remove_knot.proofs.judging.inner_ok.Goals.{Else-not-strictly_inside}
 use Rattle.remove_knot.proofs.judging.inner_ok.Goals as goal
 
@@ -19,18 +18,18 @@ unfolding inner_ok
 returns-then-not-strictly_inside c = record { answer = rw (test-failed (ap not c.if-not-strictly_inside.true) c.strictly_inside.ensures.answer) }
 
 -- v lies inside the domain
-inside : (c : Else-not-strictly_inside) → strictly_inside c.args.knots.now c.args.m (length c.args.xs.now) c.args.v ≡ true
+inside : (c : Else-not-strictly_inside) → strictly_inside c.args.curve.knots.now c.args.curve.degree (length c.args.curve.xs.now) c.args.v ≡ true
 inside c = test-passed (ap not c.if-not-strictly_inside.false) c.strictly_inside.ensures.answer
 
 pub overflow_cast-value : goal.overflow_cast-value
 overflow_cast-value c = let a = c.args in
-    omega (arith, (inside-ends a.knots.now a.m (length a.xs.now) a.v (inside c)).1, c.type_inv.knots (length a.xs.now))
+    omega (arith, (inside-ends a.curve.knots.now a.curve.degree (length a.curve.xs.now) a.v (inside c)).1, (checked-of-passes _ _ _ _ a.curve.passes).largest (length a.curve.xs.now) (omega (arith, a.curve.sizes.knots)))
 
 pub stands-requires : goal.stands-requires
 stands-requires c =
     let a = c.args in
-    let ends = inside-ends a.knots.now a.m (length a.xs.now) a.v (inside (goal.at.stands-requires c).Else-not-strictly_inside) in
-    let least = up_to-least a.m a.knots.now a.xs.now a.v (insertable-xs a.m a.knots.now a.xs.now a.ys.now a.v c.requires (omega (arith, ends.0)) ends.1) in record { knots_value = (passes-tests a.m a.knots.now a.xs.now a.ys.now c.requires).order; at_value = c.knots_up_to.ensures.answer; le_times = omega arith; times_le_at = omega (arith, least, c.knots_up_to.ensures.answer) }
+    let ends = inside-ends a.curve.knots.now a.curve.degree (length a.curve.xs.now) a.v (inside (goal.at.stands-requires c).Else-not-strictly_inside) in
+    let least = up_to-least a.curve.degree a.curve.knots.now a.curve.xs.now a.v (insertable-xs a.curve.degree a.curve.knots.now a.curve.xs.now a.curve.ys.now a.v a.curve.passes (omega (arith, ends.0)) ends.1) in record { knots_value = (passes-tests a.curve.degree a.curve.knots.now a.curve.xs.now a.curve.ys.now a.curve.passes).order; at_value = c.knots_up_to.ensures.answer; le_times = omega arith; times_le_at = omega (arith, least, c.knots_up_to.ensures.answer) }
 
 pub returns : goal.returns
 unfolding inner_ok
