@@ -49,10 +49,10 @@ exported, declared = exports(), declarations(bare)
 for name in sorted(exported.keys() | declared.keys()):
     if exported.get(name) != declared.get(name):
         faults.append(f"{name}: exported with {exported.get(name)}, declared with {declared.get(name)}")
-constants = (root / "crates/refusal/src/lib.rt").read_text()
-numbers = {name: value for name, value in re.findall(r"pub const (\w+): u32 = (\d+);", constants)}
+refusals = (root / "crates/refusal/src/lib.rt").read_text()
+numbers = {re.sub(r"(?<=[a-z])(?=[A-Z])", "_", name).upper(): number for name, number in re.findall(r"^    (\w+) = (\d+),$", refusals, re.M)}
 named = {name: value for name, value in re.findall(r"TSB_(\w+) = (\d+)", bare)}
-numbers["OK"] = numbers.pop("ACCEPTED")
+numbers["OK"] = "0"
 if numbers != named:
     faults.append(f"refusal numbers: {sorted(numbers.items() ^ named.items())}")
 library = limits()

@@ -8,7 +8,7 @@ ghost use Rattle.tsaghnobir.specs.Places.{placed};
 ghost use Rattle.tsaghnobir.specs.Outcomes.{FeedHandsBack};
 
 use crate::bytes;
-use feed::{BurstAnswer, Feed};
+use feed::Feed;
 
 pub fn tsb_feed(burst: &[u8], work: &mut [u8], received: &mut usize) -> u32
     ensures answer { result ≡ work_number work.old }
@@ -20,11 +20,11 @@ pub fn tsb_feed(burst: &[u8], work: &mut [u8], received: &mut usize) -> u32
     };
     let answer = feed::feed_burst(state, burst, work);
     match answer {
-        BurstAnswer::Fed(next) => {
+        Ok(next) => {
             *received = next.received;
-            refusal::ACCEPTED
+            0
         }
-        BurstAnswer::Refused(number) => number,
+        Err(refusal) => refusal.into(),
     }
 }
 

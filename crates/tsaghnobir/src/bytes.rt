@@ -7,10 +7,11 @@ ghost use Rattle.format.specs.Format.{form1, record_bytes};
 ghost use Rattle.record.specs.Writing.{write_number};
 ghost use Rattle.tsaghnobir.specs.Places.{placed};
 ghost use Rattle.tsaghnobir.specs.Outcomes.{RecordHandsBack, JobHandsBack};
-ghost use Rattle.tsaghnobir.specs.Answered.{job_placed};
+ghost use Rattle.tsaghnobir.specs.Answered.{failure_placed, job_placed};
 
-use job::JobAnswer;
-use record::{ReadAnswer, WriteAnswer};
+use crate::places::put;
+use job::Job;
+use taken_field::Failure;
 
 pub fn tsb_write_record(
     degree: u32,
@@ -27,13 +28,7 @@ pub fn tsb_write_record(
         ≡ placed result (lib.ListN.length (record_bytes form1 degree (lists knots.now xs.now ys.now))) length.old }
 {
     let answer = record::write_record(degree, knots, xs, ys, out);
-    match answer {
-        WriteAnswer::Written(bytes) => {
-            *length = bytes;
-            refusal::ACCEPTED
-        }
-        WriteAnswer::Refused(number) => number,
-    }
+    put(answer, length)
 }
 
 pub fn tsb_read_record(
@@ -51,19 +46,12 @@ pub fn tsb_read_record(
 {
     let answer = record::read_record(bytes, out_knots, out_xs, out_ys);
     match answer {
-        ReadAnswer::Curve {
-            degree: m,
-            points: count,
-        } => {
-            *degree = m;
-            *points = count;
-            refusal::ACCEPTED
+        Ok(found) => {
+            *degree = found.degree;
+            *points = found.points;
+            0
         }
-        ReadAnswer::Broken { number, place: at } => {
-            *place = at;
-            number
-        }
-        ReadAnswer::Refused(number) => number,
+        Err(failure) => place_failure(failure, place),
     }
 }
 
@@ -88,9 +76,22 @@ pub fn tsb_read_job(
     place_job(answer, degree, points, radius, clamp_count, place)
 }
 
+// The number of a failure; where bytes break, the place goes to its own.
+fn place_failure(failure: Failure, place: &mut usize) -> u32
+    ensures answer { (result, place.new) ≡ failure_placed failure place.old }
+{
+    match failure {
+        Failure::Broken(found) => {
+            *place = found.place;
+            found.refusal.into()
+        }
+        Failure::Refused(refusal) => refusal.into(),
+    }
+}
+
 // Writes what reading a job answers through the places lent for it, and answers the number.
 pub(crate) fn place_job(
-    answer: JobAnswer,
+    answer: Result<Job, Failure>,
     degree: &mut u32,
     points: &mut usize,
     radius: &mut u32,
@@ -101,22 +102,13 @@ pub(crate) fn place_job(
         ≡ job_placed answer (degree.old, points.old, radius.old, clamp_count.old, place.old) }
 {
     match answer {
-        JobAnswer::Job {
-            degree: m,
-            points: count,
-            radius: cutter,
-            clamps: sides,
-        } => {
-            *degree = m;
-            *points = count;
-            *radius = cutter;
-            *clamp_count = sides;
-            refusal::ACCEPTED
+        Ok(found) => {
+            *degree = found.degree;
+            *points = found.points;
+            *radius = found.radius;
+            *clamp_count = found.clamps;
+            0
         }
-        JobAnswer::Broken { number, place: at } => {
-            *place = at;
-            number
-        }
-        JobAnswer::Refused(number) => number,
+        Err(failure) => place_failure(failure, place),
     }
 }

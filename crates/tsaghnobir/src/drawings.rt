@@ -6,7 +6,7 @@ ghost use Rattle.curve.specs.Lists.{lists};
 ghost use Rattle.svg_out.specs.Svg.{svg_text, svg_number};
 ghost use Rattle.tsaghnobir.specs.Places.{placed};
 
-use svg_out::SvgAnswer;
+use crate::places::put;
 
 pub fn tsb_svg(
     degree: u32,
@@ -23,11 +23,5 @@ pub fn tsb_svg(
         ≡ placed result (lib.ListN.length (svg_text degree (lists knots.now xs.now ys.now))) length.old }
 {
     let answer = svg_out::write_svg(degree, knots, xs, ys, out);
-    match answer {
-        SvgAnswer::Written(bytes) => {
-            *length = bytes;
-            refusal::ACCEPTED
-        }
-        SvgAnswer::Refused(number) => number,
-    }
+    put(answer, length)
 }

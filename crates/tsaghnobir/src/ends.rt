@@ -6,8 +6,7 @@ ghost use Rattle.clamping.specs.Clamping.{clamped, clamp_number};
 ghost use Rattle.unclamping.specs.Unclamping.{unclamped, unclamp_number};
 ghost use Rattle.tsaghnobir.specs.Places.{placed};
 
-use clamp_ends::ClampAnswer;
-use unclamp_right::UnclampAnswer;
+use crate::places::put;
 
 pub fn tsb_clamp_ends(
     degree: u32,
@@ -28,13 +27,7 @@ pub fn tsb_clamp_ends(
         ≡ placed result (length (clamped degree (lists knots.now xs.now ys.now)).xs) points.old }
 {
     let answer = clamp_ends::clamp_ends(degree, knots, xs, ys, out_knots, out_xs, out_ys);
-    match answer {
-        ClampAnswer::Clamped(carriers) => {
-            *points = carriers;
-            refusal::ACCEPTED
-        }
-        ClampAnswer::Refused(number) => number,
-    }
+    put(answer, points)
 }
 
 pub fn tsb_unclamp_right(
@@ -55,11 +48,5 @@ pub fn tsb_unclamp_right(
     ensures count { points.new ≡ placed result (length xs.now) points.old }
 {
     let answer = unclamp_right::unclamp_right(degree, knots, xs, ys, out_knots, out_xs, out_ys);
-    match answer {
-        UnclampAnswer::Unclamped(count) => {
-            *points = count;
-            refusal::ACCEPTED
-        }
-        UnclampAnswer::Refused(number) => number,
-    }
+    put(answer, points)
 }

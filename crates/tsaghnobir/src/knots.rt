@@ -7,9 +7,7 @@ ghost use Rattle.insertion.specs.Judged.{insertion_number};
 ghost use Rattle.tsaghnobir.specs.Places.{placed};
 ghost use Rattle.tsaghnobir.specs.Outcomes.{RemovalHandsBack, CompactionHandsBack};
 
-use compact::CompactAnswer;
-use insert_knot::InsertAnswer;
-use remove_knot::RemoveAnswer;
+use crate::places::put;
 
 pub fn tsb_insert(
     degree: u32,
@@ -30,13 +28,7 @@ pub fn tsb_insert(
     ensures count { points.new ≡ placed result (length xs.now + 1) points.old }
 {
     let answer = insert_knot::insert_knot(degree, knots, xs, ys, v, out_knots, out_xs, out_ys);
-    match answer {
-        InsertAnswer::Inserted(count) => {
-            *points = count;
-            refusal::ACCEPTED
-        }
-        InsertAnswer::Refused(number) => number,
-    }
+    put(answer, points)
 }
 
 pub fn tsb_remove(
@@ -55,13 +47,7 @@ pub fn tsb_remove(
         (lists out_knots.new out_xs.new out_ys.new) points.new }
 {
     let answer = remove_knot::remove_knot(degree, knots, xs, ys, v, out_knots, out_xs, out_ys);
-    match answer {
-        RemoveAnswer::Removed(count) => {
-            *points = count;
-            refusal::ACCEPTED
-        }
-        RemoveAnswer::Refused(number) => number,
-    }
+    put(answer, points)
 }
 
 pub fn tsb_compact(
@@ -81,11 +67,11 @@ pub fn tsb_compact(
 {
     let answer = compact::compact(degree, knots, xs, ys, out_knots, out_xs, out_ys);
     match answer {
-        CompactAnswer::Compacted(count) => {
+        Ok(count) => {
             *points = xs.len() - count;
             *removed = count;
-            refusal::ACCEPTED
+            0
         }
-        CompactAnswer::Refused(number) => number,
+        Err(refusal) => refusal.into(),
     }
 }

@@ -7,6 +7,7 @@ mod bytes;
 mod drawings;
 mod ends;
 mod knots;
+mod places;
 mod questions;
 mod spline_points;
 

@@ -10,14 +10,15 @@ ghost use Rattle.span_walk.specs.SpanLists.{span_lists, knots_met, spans_handed_
 ghost use Rattle.spans_met.specs.Answer.{list_number};
 ghost use Rattle.tsaghnobir.specs.Places.{placed, first_carrying, clamp_of};
 
+use crate::places::put;
 use boxes::Rectangle;
 use point_at::PointAnswer;
-use spans_met::SpansAnswer;
+use refusal::Refusal;
 
 pub fn tsb_check(degree: u32, knots: &[u16], xs: &[i32], ys: &[i32]) -> u32
     ensures answer { result ≡ check_number degree knots.now xs.now ys.now }
 {
-    grid::check(degree, knots, xs, ys)
+    refusal::number(grid::check(degree, knots, xs, ys))
 }
 
 pub fn tsb_point(
@@ -38,7 +39,7 @@ pub fn tsb_point(
         PointAnswer::At(place) => {
             *x = place.x;
             *y = place.y;
-            refusal::ACCEPTED
+            0
         }
         PointAnswer::Refused(number) => number,
     }
@@ -95,11 +96,5 @@ pub fn tsb_spans(
         high_y,
     };
     let answer = spans_met::list_spans_met(degree, knots, xs, ys, clamp, radius, lows, highs);
-    match answer {
-        SpansAnswer::Listed(spans) => {
-            *count = spans;
-            refusal::ACCEPTED
-        }
-        SpansAnswer::Refused(number) => number,
-    }
+    put(answer, count)
 }

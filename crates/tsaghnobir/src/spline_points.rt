@@ -4,24 +4,10 @@ ghost use Rattle.curve.specs.Lists.{lists};
 ghost use Rattle.curve.specs.HandingOver.{handed_over};
 ghost use Rattle.joined_curve.specs.Curve.{inner_twice, inner_thrice};
 ghost use Rattle.joining.specs.SplinePoints.{spline_points};
-ghost use Rattle.joining.specs.Answer.{joined_lists, join_number, join_answer};
+ghost use Rattle.joining.specs.Answer.{joined_lists, join_number};
 ghost use Rattle.tsaghnobir.specs.Places.{placed};
 
-use joining::JoinAnswer;
-
-// The number of refusal of an answer; the number of points goes to its place where nothing is refused.
-fn told(given: JoinAnswer, points: &mut usize) -> u32
-    ensures count { (number count : ℕ) → given ≡ join_answer number count
-        → (result ≡ number) × (points.new ≡ placed result count points.old) }
-{
-    match given {
-        JoinAnswer::Joined(count) => {
-            *points = count;
-            refusal::ACCEPTED
-        }
-        JoinAnswer::Refused(number) => number,
-    }
-}
+use crate::places::put;
 
 pub fn tsb_join(
     params: &[u16],
@@ -44,7 +30,7 @@ pub fn tsb_join(
         (spline_points params.now px.now py.now tx.now ty.now)).xs) points.old }
 {
     let given = joining::join(params, px, py, tx, ty, out_knots, out_xs, out_ys);
-    told(given, points)
+    put(given, points)
 }
 
 pub fn tsb_join_through_points(
@@ -68,5 +54,5 @@ pub fn tsb_join_through_points(
         (spline_points params.now px.now py.now tx.now ty.now)).xs) points.old }
 {
     let given = joining::join_through_points(params, px, py, tx, ty, out_knots, out_xs, out_ys);
-    told(given, points)
+    put(given, points)
 }
