@@ -2,6 +2,8 @@
 -- `inner` says how often a knot stands where two pieces meet: 3 keeps the meeting point among the points, 2 leaves it out.
 use Rattle.std.specs.Prelude.{List, [], ◌∷◌, ◌++◌, ℕ, ◌-◌, ◌≤◌, ℤ, replicate}
 use Rattle.spline_pieces.specs.Pieces.{Piece}
+use Rattle.joined_curve.specs.declared.meeting.Meeting.{Meeting}
+use Rattle.joined_curve.specs.declared.meeting.Meeting.TheVariants.{LeftOut, Kept}
 
 abbrev pub end_knots : ℕ  -- how often an end value stands
 end_knots = 4
@@ -11,6 +13,10 @@ inner_twice = 2
 
 abbrev pub inner_thrice : ℕ  -- how often an inner value stands where the meeting points stay: joining through the points
 inner_thrice = 3
+
+abbrev pub inner_of : Meeting → ℕ  -- how often it stands, by what becomes of the meeting points
+inner_of LeftOut = inner_twice
+inner_of Kept = inner_thrice
 
 abbrev pub EitherNumber : ℕ → Type 0  -- one of the two: `inner` is 2 or 3
 EitherNumber inner = (inner_twice ≤ inner) × (inner ≤ inner_thrice)

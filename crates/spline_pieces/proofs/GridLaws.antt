@@ -26,6 +26,8 @@ module _ (ss : List ℕ) (ps ds : List ℤ) (i : ℕ) (ends : all_on_grid ps ≡
       last-true true = refl
       last-true false = refl
 
+pub ruleset ends_known = (inner-decide)
+
 -- what the judgement says of the inner points
 pub inner-on-grid : (piece : Piece) → piece_on_grid piece ≡ true → (on_grid piece.leaving ≡ true) × (on_grid piece.arriving ≡ true)
 unfolding piece_on_grid

@@ -1,6 +1,5 @@
 -- Laws of pieces.
 pub mod ThirdLaws
-pub mod WidthLaws
 pub mod GridLaws
 pub mod PieceLaws
 pub mod SentenceLaws

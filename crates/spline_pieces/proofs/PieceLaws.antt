@@ -48,6 +48,9 @@ module _ (ok : Piece → Bool) (ss : List ℕ) (ps ds : List ℤ) (i : ℕ) wher
   unfolding every_piece
   every-end h = ap (every_piece ok) (pieces_none ss ps ds i h)
 
+-- the turns of a loop over the pieces
+pub ruleset pieces_turn = (pieces-all, every-on, every-fails, every-end)
+
 -- a test of all pieces says the same of each
 module _ (ok : Piece → Bool) (ss : List ℕ) (ps ds : List ℤ) where
   each_from : (count i k : ℕ) → k < count → every_piece ok (pieces_from ss ps ds i count) ≡ true → ok (piece_at ss ps ds (i + k)) ≡ true

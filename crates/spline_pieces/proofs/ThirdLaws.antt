@@ -34,3 +34,5 @@ module _ (z : ℤ) (fits : SFits w64 z) where
 pub third-judged : (h : ℕ) (d z : ℤ) → SFits w64 z → z ≡ pos h *ℤ d → eqb (of_z w64 (rem_z (to_z w64 (of_z w64 z)) (pos 3))) 0 ≡ third_whole h d
 unfolding third_whole
 third-judged h d z fits e = rw (to_z-of_z w64 z fits) (remainder-none z 3 (omega arith) (omega arith)) ∙ ap (divides (pos 3)) e
+
+pub ruleset third_tested = (third-judged)
