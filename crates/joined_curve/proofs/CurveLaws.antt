@@ -7,7 +7,14 @@ use native.Mathlib.Omega.{arith}
 use lib.IntN.{ℤ, pos}
 use lib.ListN.{length, get_or, replicate, length-append, length-replicate}
 use Rattle.spline_pieces.specs.Pieces.{Piece, piece_of, piece_at, pieces_from, pieces}
-use Rattle.joined_curve.specs.Curve.{end_knots, knots_after, joined_knots, points_after, joined_points}
+use Rattle.joined_curve.specs.Curve.{end_knots, inner_of, EitherNumber, knots_after, joined_knots, points_after, joined_points}
+use Rattle.joined_curve.specs.declared.meeting.Meeting.{Meeting}
+use Rattle.joined_curve.specs.declared.meeting.Meeting.TheVariants.{LeftOut, Kept}
+
+-- an inner parameter stands twice or three times
+pub either_of : (meeting : Meeting) → EitherNumber (inner_of meeting)
+either_of LeftOut = (omega arith, omega arith)
+either_of Kept = (omega arith, omega arith)
 
 -- the knots before the end of piece i
 unfoldable pub knots_before : ℕ → List ℕ → ℕ → List ℕ

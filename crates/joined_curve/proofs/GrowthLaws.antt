@@ -8,9 +8,7 @@ use lib.IntN.{ℤ, pos}
 use lib.ListN.{length, get_or, replicate, length-replicate, replicate-append-replicate}
 use lib.Seq.{sets}
 use Rattle.spline_pieces.specs.Pieces.{Piece, piece_of, piece_at, pieces_from, pieces}
-use Rattle.joined_curve.specs.Curve.{end_knots, inner_of, EitherNumber, knots_after, joined_knots, points_after, joined_points}
-use Rattle.joined_curve.specs.declared.meeting.Meeting.{Meeting}
-use Rattle.joined_curve.specs.declared.meeting.Meeting.TheVariants.{LeftOut, Kept}
+use Rattle.joined_curve.specs.Curve.{end_knots, EitherNumber, knots_after, joined_knots, points_after, joined_points}
 use Rattle.joined_curve.proofs.CurveLaws.{knots_before, in_piece, points_before, knots-cut, points-cut, knots_before-length, points_before-length}
 use Rattle.joined_curve.proofs.PutLaws.{Grown, grown-more}
 
@@ -34,11 +32,6 @@ KnotsGrown inner ss before out at i = Grown (length ss) inner 4 4 (knots_to inne
 
 abbrev pub PointsGrown : ℕ → List ℕ → List ℤ → List ℤ → List ℤ → List ℤ → ℕ → ℕ → Type 0
 PointsGrown inner ss ps ds before out at i = Grown (length ss) inner 1 3 (points_to inner ss ps ds) before out at i
-
--- an inner parameter stands twice or three times
-pub either_of : (meeting : Meeting) → EitherNumber (inner_of meeting)
-either_of LeftOut = (omega arith, omega arith)
-either_of Kept = (omega arith, omega arith)
 
 module _ (inner : ℕ) (either : EitherNumber inner) where
   -- so often as an end value stands: as often as an inner one does, and the rest

@@ -5,6 +5,9 @@ use mathlib.Core.Path.{◌≡◌, refl}
 use Prim.Native.Nat.{ℕ}
 use lib.IntN.{ℤ, pos, negsuc}
 use lib.ListN.{replicate}
+use Rattle.std.specs.Prelude.{Ok, Err}
+use Rattle.refusal.specs.Answers.{Answers}
+use Rattle.refusal.specs.declared.Refusal.TheVariants.{JoinedRange}
 use Rattle.signed.specs.Division.{divides}
 use Rattle.curve.specs.Lists.{Lists, lists}
 use Rattle.curve.specs.HandingOver.{enough}
@@ -12,8 +15,7 @@ use Rattle.grid.specs.Rows.{on_grid, all_on_grid, range_ok}
 use Rattle.spline_pieces.specs.Pieces.{pieces, pieces_from, piece_at, piece_of, third, third_whole, every_piece, piece_on_grid}
 use Rattle.joined_curve.specs.Curve.{inner_twice, inner_thrice, knots_after, joined_knots, points_after, joined_points}
 use Rattle.joining.specs.SplinePoints.{SplinePoints, spline_points, spline_count_ok, counts_agree, rises_strictly_from, spline_points_ok}
-use Rattle.joining.specs.Answer.{joinable_then, join_number, join_answer}
-use Rattle.joining.specs.declared.JoinAnswer.TheVariants.{Joined, Refused}
+use Rattle.joining.specs.Answer.{joinable_then, join_number}
 
 -- 2 to 342 spline points
 counts : spline_count_ok 1 ∷ spline_count_ok 2 ∷ spline_count_ok 342 ∷ spline_count_ok 343 ∷ [] ≡ false ∷ true ∷ true ∷ false ∷ []
@@ -72,5 +74,8 @@ unfolding joinable_then spline_points_ok spline_count_ok counts_agree rises_stri
 either-answers = refl
 
 -- the answer by cases
-joined-or-refused : join_answer 0 4 ∷ join_answer 18 4 ∷ [] ≡ Joined 4 ∷ Refused 18 ∷ []
-joined-or-refused = refl
+joined-four : Answers {A = ℕ} 0 4 (Ok 4)
+joined-four = (refl, refl)
+
+refused-eighteen : Answers {A = ℕ} 18 4 (Err JoinedRange)
+refused-eighteen = (refl, tt)

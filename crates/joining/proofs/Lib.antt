@@ -2,5 +2,6 @@
 pub mod RisingLaws
 pub mod StandingLaws
 pub mod RoomLaws
+pub mod AnswerLaws
 pub mod SentenceLaws
 mod Controls

@@ -35,6 +35,9 @@ module _ (ss : List ℕ) (low i : ℕ) where
   unfolding rises_strictly_from
   rises-end h = rw (drop_of_length-le ss h)
 
+-- the turns of a loop over the parameters
+pub ruleset parameter_turn = (rises-low, rises-high, rises-on, rises-end)
+
 -- the three facts of one step
 rises-parts : (low s : ℕ) (ss : List ℕ) → rises_strictly_from low (s ∷ ss) ≡ true
     → (low ≤ s) × (s ≤ knot_most) × (rises_strictly_from (suc s) ss ≡ true)

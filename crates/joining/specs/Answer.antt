@@ -1,6 +1,8 @@
 -- What the joining call answers (headings "Joining spline points", "Numbers of refusal"). `inner` says how often a knot stands where two pieces meet.
-use Rattle.std.specs.Prelude.{◌&&◌, ◌≡◌, ℕ, length}
-use Rattle.refusal.specs.Judging.{unless, answered}
+use Rattle.std.specs.Prelude.{◌&&◌, Result, ◌≡◌, ℕ, length}
+use Rattle.refusal.specs.Answers.{Answers}
+use Rattle.refusal.specs.declared.Refusal.{Refusal}
+use Rattle.refusal.specs.Judging.{unless}
 use Rattle.refusal.specs.Numbers.{range_refused, not_whole_refused, spline_points_refused, joined_range_refused}
 use Rattle.grid.specs.Rows.{range_ok}
 use Rattle.curve.specs.Lists.{Lists, lists}
@@ -8,8 +10,6 @@ use Rattle.curve.specs.HandingOver.{room_number, handed_over}
 use Rattle.spline_pieces.specs.Pieces.{all_whole, all_pieces_on_grid}
 use Rattle.joined_curve.specs.Curve.{joined_knots, joined_points}
 use Rattle.joining.specs.SplinePoints.{SplinePoints, pieces_x, pieces_y, spline_points_ok}
-use Rattle.joining.specs.declared.JoinAnswer.{JoinAnswer}
-use Rattle.joining.specs.declared.JoinAnswer.TheVariants.{Joined, Refused}
 
 abbrev pub joined_lists : ℕ → SplinePoints → Lists  -- the joined curve: both axes have the same knots
 joined_lists inner s = lists (joined_knots inner (pieces_x s)) (joined_points inner (pieces_x s)) (joined_points inner (pieces_y s))
@@ -25,10 +25,7 @@ joinable_then s next =
 abbrev pub join_number : ℕ → SplinePoints → Lists → ℕ  -- the number of refusal, or 0: those of the spline points, then 15
 join_number inner s lent = joinable_then s (room_number (joined_lists inner s) lent)
 
-abbrev pub join_answer : ℕ → ℕ → JoinAnswer  -- the answer by cases: how many points the joined curve has, or the number of refusal
-join_answer number points = answered Joined Refused number points
-
--- the answer, and the joined curve handed over; or the number alone
-pub record JoinOutcome (inner : ℕ) (s : SplinePoints) (before : Lists) (answer : JoinAnswer) (now : Lists) : Type 0 where
-  pub answers : answer ≡ join_answer (join_number inner s before) (length (joined_lists inner s).xs)
+-- the answer, how many points the joined curve has, and this curve handed over; or the number alone
+pub record JoinOutcome (inner : ℕ) (s : SplinePoints) (before : Lists) (answer : Result ℕ Refusal) (now : Lists) : Type 0 where
+  pub answers : Answers (join_number inner s before) (length (joined_lists inner s).xs) answer
   pub hands : now ≡ handed_over (join_number inner s before) (joined_lists inner s) before

@@ -5,9 +5,9 @@ use native.Mathlib.Omega.{arith}
 use lib.ListN.{length}
 use Rattle.spline_pieces.specs.Pieces.{pieces}
 use Rattle.joined_curve.specs.Curve.{inner_of, joined_knots}
-use Rattle.joined_curve.proofs.CurveLaws.{knots-length}
+use Rattle.joined_curve.proofs.CurveLaws.{either_of, knots-length}
 use Rattle.joined_curve.proofs.PutLaws.{grown-begin, grown-all}
-use Rattle.joined_curve.proofs.GrowthLaws.{knots_to, either_of, knots-grow, knots-grown}
+use Rattle.joined_curve.proofs.GrowthLaws.{knots_to, knots-grow, knots-grown}
 use Rattle.joined_curve.proofs.knots.write_knots.Goals as goal
 
 pub loop-i-init : goal.loop-i-init

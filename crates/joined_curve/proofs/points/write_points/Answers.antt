@@ -10,9 +10,9 @@ use mir.ValLaws.{to_z-of_z}
 use borrow.Author.Rules.{rules}
 use Rattle.spline_pieces.specs.Pieces.{pieces}
 use Rattle.joined_curve.specs.Curve.{inner_of, joined_points}
-use Rattle.joined_curve.proofs.CurveLaws.{points-length}
+use Rattle.joined_curve.proofs.CurveLaws.{either_of, points-length}
 use Rattle.joined_curve.proofs.PutLaws.{grown-begin, grown-all}
-use Rattle.joined_curve.proofs.GrowthLaws.{points_to, either_of, points-grow, points-grown}
+use Rattle.joined_curve.proofs.GrowthLaws.{points_to, points-grow, points-grown}
 use Rattle.joined_curve.proofs.points.write_points.Goals.{After-out-1}
 use Rattle.joined_curve.proofs.points.write_points.Goals as goal
 
