@@ -1,6 +1,7 @@
 -- The window of a knot, the last of its value: the m + 2 points and 2m + 3 knots round it. Removing the knot changes nothing else
 -- and looks at nothing else.
-use Rattle.std.specs.Prelude.{Bool, true, false, List, ◌++◌, ◌≡◌, ℕ, ◌+◌, ◌≤◌, ◌<◌, ℤ, length, get_or, take, drop}
+use Rattle.std.specs.Prelude.{Result, Ok, Err, List, ◌++◌, ◌≡◌, ℕ, ◌+◌, ◌≤◌, ◌<◌, ℤ, length, get_or, take, drop}
+use Rattle.refusal.specs.declared.Refusal.{Refusal}
 use Rattle.curve.specs.Lists.{NeverFall}
 use Rattle.lent.specs.Lent.{over}
 use Rattle.removal.specs.Axis.{Ranged, AxisReinserts}
@@ -42,6 +43,6 @@ pub record Stuck (m : ℕ) (ts : List ℕ) (xs ys : List ℤ) (ts_after : List �
   pub same_ys : ys_after ≡ ys
 
 -- one try
-pub record WindowOutcome (m : ℕ) (ts : List ℕ) (xs ys : List ℤ) (ts_after : List ℕ) (xs_after ys_after : List ℤ) (r : Bool) : Type 0 where
-  pub removed : r ≡ true → Closed m ts xs ys ts_after xs_after ys_after
-  pub kept : r ≡ false → Stuck m ts xs ys ts_after xs_after ys_after
+abbrev pub WindowOutcome : ℕ → List ℕ → List ℤ → List ℤ → List ℕ → List ℤ → List ℤ → Result (Unit {0}) Refusal → Type 0
+WindowOutcome m ts xs ys ts_after xs_after ys_after (Ok removed) = Closed m ts xs ys ts_after xs_after ys_after
+WindowOutcome m ts xs ys ts_after xs_after ys_after (Err refusal) = Stuck m ts xs ys ts_after xs_after ys_after

@@ -4,6 +4,8 @@
 ghost use Rattle.std.specs.Prelude.{◌≡◌, ◌+◌, ◌≤◌, length, take};
 ghost use Rattle.window.specs.Window.{closed, Window, WindowOutcome};
 
+use refusal::Refusal;
+
 // The window's knots without the one in the middle, and zeros behind them. Written out for each degree: short loops would take longer.
 fn close(m: usize, knots: &[u16]) -> [u16; 8]
     requires le_m { (1 ≤ m) × (m ≤ 3) }
@@ -32,7 +34,7 @@ fn remove_by_axes(
     ks: &[u16],
     px: &mut [i32],
     py: &mut [i32],
-) -> bool
+) -> Result<(), Refusal>
     requires window { Window m knots.old xs.old ys.old }
     requires ks_value { ks.now ≡ closed m knots.old }
     requires px_len { length px.old ≡ m + 1 }
@@ -40,21 +42,22 @@ fn remove_by_axes(
     ensures answer { WindowOutcome m knots.old xs.old ys.old knots.new xs.new ys.new result }
 {
     let v = knots[m + 1];
-    if !removal_walk::remove_axis(m, ks, xs, v, m, px) {
-        return false;
-    }
-    if !removal_walk::remove_axis(m, ks, ys, v, m, py) {
-        return false;
-    }
+    removal_walk::remove_axis(m, ks, xs, v, m, px)?;
+    removal_walk::remove_axis(m, ks, ys, v, m, py)?;
     copying::copy_into(ks, knots);
     copying::copy_into(px, xs);
     copying::copy_into(py, ys);
-    true
+    Ok(())
 }
 
-// Removes the knot in the middle: true with the fewer knots and the points that give the old ones back at the window's front,
-// false where there are none and the window is as it was.
-pub fn remove_middle(m: usize, knots: &mut [u16], xs: &mut [i32], ys: &mut [i32]) -> bool
+// Removes the knot in the middle: the fewer knots and the points that give the old ones back stand at the window's front, or a
+// refusal where there are none, and the window is as it was.
+pub fn remove_middle(
+    m: usize,
+    knots: &mut [u16],
+    xs: &mut [i32],
+    ys: &mut [i32],
+) -> Result<(), Refusal>
     requires { Window m knots.old xs.old ys.old }
     ensures answer { WindowOutcome m knots.old xs.old ys.old knots.new xs.new ys.new result }
 {
