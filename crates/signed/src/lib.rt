@@ -7,12 +7,12 @@ ghost use Rattle.std.specs.Prelude.{◌≡◌, pos, ◌*ℤ◌};
 pub fn wide(z: i32) -> i64
     ensures answer { result ≡ z }
 {
-    z as i64
+    i64::from(z)
 }
 
 // A knot's 16 bits times a coordinate's 32: at most 2^47 either way, so neither the product nor the sum of two wraps.
 pub fn product(a: u16, z: i32) -> i64
     ensures answer { result ≡ pos a *ℤ z }
 {
-    (a as i64) * (z as i64)
+    i64::from(a) * i64::from(z)
 }

@@ -41,6 +41,8 @@ unfolding span_of
 span_of-lower ts m zero p q h e = absurd (omega arith)
 span_of-lower ts m (suc n) p q h e = simp (lt-leb _ _ h, e, sub-one)
 
+pub ruleset span_turns = (span_of-here, span_of-lower)
+
 module _ (ts : List ℕ) (m n p q : ℕ) where
   last-is : m ≤ n → get_or ts n 0 * q ≤ p → get_or ts n 0 < get_or ts (n + 1) 0 → IsSpan ts m n p q n
   last-is h a b = record { from = h; to = le_refl n; starts = a; wide = b; largest = λ k kn _ _. kn }

@@ -8,22 +8,17 @@ ghost use Rattle.span.specs.Span.{starts_at, span_of, in_domain, strictly_inside
 fn starts_at(knots: &[u16], i: usize, t: u32) -> bool
     ensures answer { result ≡ starts_at knots.now t 1 i }
 {
-    if knots.len() <= i {
-        return false;
-    }
-    let next = i + 1;
-    if knots.len() <= next {
-        return false;
-    }
-    (knots[i] as u32) <= t && knots[i] < knots[next]
+    i < knots.len() && i + 1 < knots.len() && u32::from(knots[i]) <= t && knots[i] < knots[i + 1]
 }
 
 // The largest index from `degree` to `last` whose span begins at or before t and is not empty.
+#[tactic(auto, using(crate::proofs::SpanLaws::span_turns))]
 pub fn span_of(knots: &[u16], degree: usize, last: usize, t: u32) -> usize
     ensures answer { result ≡ span_of knots.now degree last t 1 }
 {
     let mut i = last;
-    let span = loop {
+    // An `if` for each reason to stop: joined by || the proof of the turn did not close.
+    loop {
         if i <= degree {
             break i;
         }
@@ -31,39 +26,33 @@ pub fn span_of(knots: &[u16], degree: usize, last: usize, t: u32) -> usize
             break i;
         }
         i -= 1;
-    };
-    span
+    }
 }
 
 // Knot i, or 0 where there is none.
 pub fn knot_at(knots: &[u16], i: usize) -> u32
     ensures answer { result ≡ get_or knots.now i 0 }
 {
-    if knots.len() <= i {
-        return 0;
-    }
-    knots[i] as u32
+    knots.get(i).map_or(0, |knot| u32::from(*knot))
 }
 
 // Whether t lies from knot `degree` to the knot after `last`, both included.
+#[tactic(auto, unfolding(crate::specs::Span::in_domain))]
 pub fn in_domain(knots: &[u16], degree: usize, last: usize, t: u32) -> bool
     ensures answer { result ≡ in_domain knots.now degree last t 1 }
 {
-    if t < knot_at(knots, degree) {
-        return false;
-    }
-    if knots.len() <= last {
-        return t <= 0;
-    }
-    t <= knot_at(knots, last + 1)
+    let end = if last < knots.len() {
+        knot_at(knots, last + 1)
+    } else {
+        0
+    };
+    knot_at(knots, degree) <= t && t <= end
 }
 
 // Whether v lies strictly between knot `degree` and the knot after the last of `count` points.
+#[tactic(auto, unfolding(crate::specs::Span::strictly_inside))]
 pub fn strictly_inside(knots: &[u16], degree: usize, count: usize, v: u32) -> bool
     ensures answer { result ≡ strictly_inside knots.now degree count v }
 {
-    if v <= knot_at(knots, degree) {
-        return false;
-    }
-    v < knot_at(knots, count)
+    knot_at(knots, degree) < v && v < knot_at(knots, count)
 }
