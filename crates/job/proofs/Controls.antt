@@ -1,4 +1,5 @@
 -- Closed cases: a job byte by byte; the worked job, curve A with three clamps (heading "Worked by hand"), and the same with its end cut off.
+use Rattle.std.specs.Prelude.{Ok, Err}
 use mathlib.Core.Path.{◌≡◌, refl}
 use mathlib.Core.List.{List, [], ◌∷◌, ◌++◌}
 use lib.IntN.{pos}
@@ -21,10 +22,10 @@ use Rattle.job.specs.JobFormat.{job_bytes, jobs}
 use Rattle.job.proofs.JobFaultLaws.{job-fault}
 use Rattle.fault.specs.Fault.{Fault}
 use Rattle.fault.proofs.FirstFieldLaws.{octets-by}
-use Rattle.job.specs.JobJudging.{behind_record, job_layout}
-use Rattle.job.specs.JobReading.{job_number, job_answer}
-use Rattle.job.specs.declared.JobAnswer.TheVariants.{Job, Broken, Refused}
-use Rattle.job.specs.declared.JobLayout.TheVariants.{Sound, Broken as Unsound}
+use Rattle.job.specs.JobJudging.{sound, behind_record, job_layout}
+use Rattle.job.specs.JobReading.{job_number, JobAnswers}
+use Rattle.refusal.specs.declared.Refusal.TheVariants.{Rectangle, Tag}
+use Rattle.taken_field.specs.declared.Failure.TheVariants.{Broken, Refused}
 
 -- a line of three points, a cutter of 3 mm, and two clamps behind it: x from -2 to 300 and y from -262,144 to 5; x from 7 to 8 and y from 9 to 10
 job-of-line : job_bytes form1 1 line 150 two
@@ -54,16 +55,16 @@ long-A : length job_a ≡ 123
 unfolding job_a job_bytes record_bytes curve_a clamps_a
 long-A = refl
 
-pub sound-A : job_layout job_a ≡ Sound 16 16 16 3
+pub sound-A : job_layout job_a ≡ sound 16 16 16 3
 unfolding job_layout behind_record record_layout field_at length_ok clamps_from job_a job_bytes record_bytes curve_a clamps_a
 sound-A = refl
 
 -- record and radius alone are a job without clamps, and the record alone is none
-alone-A : job_layout (take 66 job_a) ≡ Sound 16 16 16 0
+alone-A : job_layout (take 66 job_a) ≡ sound 16 16 16 0
 unfolding job_layout behind_record record_layout field_at length_ok clamps_from job_a job_bytes record_bytes curve_a clamps_a
 alone-A = refl
 
-no-radius-A : job_layout (take 61 job_a) ≡ Unsound (ended_at 61)
+no-radius-A : job_layout (take 61 job_a) ≡ Err (ended_at 61)
 unfolding job_layout behind_record record_layout field_at length_ok clamps_from job_a job_bytes record_bytes curve_a clamps_a
 no-radius-A = refl
 
@@ -73,11 +74,11 @@ job_of tail = record_bytes form1 3 curve_a ++ tail
 
 misplaced : job_layout (job_of (clamp_fields clamps_a)) ∷ job_layout (job_of (radius_field 0 ++ (radius_field 0 ++ clamp_fields clamps_a)))
     ∷ job_layout (job_of (clamp_fields clamps_a ++ radius_field 0)) ∷ []
-    ≡ Unsound (tag_at 61) ∷ Unsound (tag_at 66) ∷ Unsound (tag_at 61) ∷ []
+    ≡ Err (tag_at 61) ∷ Err (tag_at 66) ∷ Err (tag_at 61) ∷ []
 unfolding job_layout behind_record record_layout field_at length_ok clamps_from record_bytes curve_a clamps_a
 misplaced = refl
 
-cut-A : job_layout (take 122 job_a) ≡ Unsound (ended_at 122)
+cut-A : job_layout (take 122 job_a) ≡ Err (ended_at 122)
 unfolding job_layout behind_record record_layout field_at length_ok clamps_from job_a job_bytes record_bytes curve_a clamps_a
 cut-A = refl
 
@@ -95,8 +96,10 @@ numbers : job_number 1 (segment 262145) 4097 crossed (segment 0) 0 ∷ job_numbe
 unfolding job_number enough clamps_ok rectangle_ok axis_ok radius_ok two checked_then degree_ok point_count_ok knot_count_ok rises_from knot_order_ok ends_ok occurrences repeats_most repeats_within repeats_ok on_grid all_on_grid range_ok
 numbers = refl
 
-read-or-refused : job_answer (judged 0) 3 4 150 2 ∷ job_answer (judged 14) 3 4 150 2 ∷ job_answer (broken 19 61) 3 4 150 2 ∷ [] ≡ Job 3 4 150 2 ∷ Refused 14 ∷ Broken 19 61 ∷ []
-read-or-refused = refl
+read-or-refused : JobAnswers (judged 0) 3 4 150 2 (Ok (record { degree = 3; points = 4; radius = 150; clamps = 2 }))
+    × JobAnswers (judged 14) 3 4 150 2 (Err (Refused Rectangle))
+    × JobAnswers (broken 19 61) 3 4 150 2 (Err (Broken (record { refusal = Tag; place = 61 })))
+read-or-refused = ((refl, refl), (refl, tt), (refl, tt))
 
 -- the leftmost fault of the worked job with its end cut off, and with a clamp's tag behind its record
 cut-told : Fault jobs (take 122 job_a) 16 122

@@ -1,4 +1,5 @@
 -- A job has its leftmost fault where judging finds its break, and none exactly where it is judged sound.
+use Rattle.std.specs.Prelude.{Result, Ok, Err}
 use mathlib.Core.Logic.{◌⊎◌, inl, inr}
 use mathlib.Core.Path.{◌≡◌, refl, sym, ap, ◌∙◌, subst}
 use mathlib.Core.List.{List, ◌∷◌, ◌++◌, append_assoc}
@@ -7,6 +8,7 @@ use native.Mathlib.Omega.{arith}
 use lib.Dec.{lit<}
 use lib.ListN.{length, take, length-append}
 use lib.Seq.{take-append_seam, take_at}
+use Rattle.refusal.specs.Answers.{number_of}
 use Rattle.refusal.specs.Numbers.{left_over_refused}
 use Rattle.grid.specs.Limits.{radius_bytes, clamps_most, job_most}
 use Rattle.fields.specs.Bytes.{u16_bytes, field_bytes, Octets}
@@ -25,12 +27,9 @@ use Rattle.fault.proofs.LeftOverLaws.{left-over-there}
 use Rattle.fault.proofs.FirstFieldLaws.{FieldThen, FirstField}
 use Rattle.fault.proofs.ChainLaws.{Some, SameKind, fault-same, then-with, then-fields, Row, up_to-some, needed-some, needed-first, needed-none, row-fields}
 use Rattle.taken_field.specs.Taking.{length_ok, field_at}
-use Rattle.taken_field.specs.declared.Taken.{Taken}
-use Rattle.taken_field.specs.declared.Taken.TheVariants.{Field, Broken as NoField}
 use Rattle.layout.specs.Judging.{record_layout}
 use Rattle.taken_field.specs.declared.Break.{Break}
 use Rattle.layout.specs.declared.Layout.{Layout}
-use Rattle.layout.specs.declared.Layout.TheVariants.{Sound as Curve, Broken as NoCurve}
 use Rattle.layout.proofs.SplitLaws.{Whole, field-known, length-least, length_most, layout-inside}
 use Rattle.breaks.proofs.ChainLaws.{ruled, record_then, RecordAhead, octets-pair, InFields, record-fields, fields-record}
 use Rattle.breaks.proofs.FaultLaws.{BreaksFrom, field-breaks, break-behind, record-breaks, break-behind-record, breaks-fault}
@@ -40,14 +39,12 @@ use Rattle.cutter.specs.Standing.{radius_rule}
 use Rattle.cutter.proofs.FieldLaws.{radius-right, contents-radius, radius-known, radius-injective}
 use Rattle.clamps.specs.Clamp.{clamp_tag, clamp_field_bytes, clamp_field, clamp_fields}
 use Rattle.clamps.specs.Tail.{clamp_rule, clamps_behind}
-use Rattle.clamps.specs.declared.Tail.{Tail}
-use Rattle.clamps.specs.declared.Tail.TheVariants.{Clamps, Broken as NoClamps}
 use Rattle.clamps.proofs.RowLaws.{clamps_up_to, clamps-row, Clamped, row-clamps, clamps-break}
 use Rattle.job.specs.JobFormat.{job_bytes, IsJob, FullJob, jobs}
 use Rattle.job.specs.Sentences.{JobFaultKept}
+use Rattle.job.specs.JobReading.{JobJudged, faulty}
 use Rattle.job.specs.JobJudging.{with_clamps, clamps_start, from_radius, behind_record, from_record, job_layout}
 use Rattle.job.specs.declared.JobLayout.{JobLayout}
-use Rattle.job.specs.declared.JobLayout.TheVariants.{Sound, Broken}
 use Rattle.job.proofs.JobLayoutLaws.{unsound, job-of-sound}
 
 -- a radius' field, and then so many clamps' fields
@@ -130,38 +127,41 @@ first-radius : FirstField radius_tag (length_ok radius_rule) behind (clamps_up_t
 first-radius = needed-first radius_tag (length_ok radius_rule) radius_bytes (lit< tt) radius-right (clamps_up_to clamps_most) some-clamps
 
 module _ (bytes : List ℕ) (octets : Octets bytes) (found : Break) where
-  by-tail : (k x y : ℕ) → (t : Tail) → clamps_start k x y ≤ length bytes → clamps_behind bytes (clamps_start k x y) ≡ t → with_clamps k x y t ≡ Broken found
+  by-tail : (k x y : ℕ) → (t : Result ℕ Break) → clamps_start k x y ≤ length bytes → clamps_behind bytes (clamps_start k x y) ≡ t → with_clamps k x y t ≡ Err found
       → BreaksFrom (clamps_up_to clamps_most) bytes (clamps_start k x y) found
-  by-tail k x y (Clamps n) inside f a = absurd (unsound k x y n found (sym a))
-  by-tail k x y (NoClamps fault) inside f a =
-      let same : fault ≡ found = cc in clamps-break bytes octets found clamps_most (clamps_start k x y) 0 inside (f ∙ ap NoClamps same)
+  by-tail k x y (Ok n) inside f a = absurd (unsound k x y n found (sym a))
+  by-tail k x y (Err fault) inside f a =
+      let same : fault ≡ found = cc in clamps-break bytes octets found clamps_most (clamps_start k x y) 0 inside (f ∙ ap Err same)
 
-  by-radius : (k x y : ℕ) → record_end k x y ≤ length bytes → (t : Taken) → field_at radius_rule bytes (record_end k x y) ≡ t → from_radius bytes k x y t ≡ Broken found
+  by-radius : (k x y : ℕ) → record_end k x y ≤ length bytes → (t : Result ℕ Break) → field_at radius_rule bytes (record_end k x y) ≡ t → from_radius bytes k x y t ≡ Err found
       → BreaksFrom behind bytes (record_end k x y) found
-  by-radius k x y inside (NoField fault) f a =
+  by-radius k x y inside (Err fault) f a =
       let same : fault ≡ found = cc in
       field-breaks radius_rule behind (clamps_up_to clamps_most) first-radius bytes octets (record_end k x y) found inside
-      (λ _. needed-none radius_tag (length_ok radius_rule) radius_bytes (lit< tt) radius-right (clamps_up_to clamps_most) some-clamps) (f ∙ ap NoField same)
-  by-radius k x y inside (Field len) f a =
+      (λ _. needed-none radius_tag (length_ok radius_rule) radius_bytes (lit< tt) radius-right (clamps_up_to clamps_most) some-clamps) (f ∙ ap Err same)
+  by-radius k x y inside (Ok len) f a =
       let whole : Whole radius_rule bytes (record_end k x y) len = field-known radius_rule bytes (record_end k x y) len f in
       let there = radius-known bytes octets (record_end k x y) len f in
       let size : len ≡ radius_bytes = omega (arith, length-least radius_rule len whole.right, length_most radius_rule len whole.right) in
       break-behind radius_rule behind (clamps_up_to clamps_most) first-radius bytes octets (record_end k x y) found len (clamps_start k x y) whole (omega arith)
       (by-tail k x y (clamps_behind bytes (clamps_start k x y)) there.inside refl a)
 
-  by-record : (l : Layout) → record_layout bytes ≡ l → from_record bytes l ≡ Broken found → BreaksFrom (record_then behind) bytes 0 found
+  by-record : (l : Result Layout Break) → record_layout bytes ≡ l → from_record bytes l ≡ Err found → BreaksFrom (record_then behind) bytes 0 found
   unfolding behind_record
-  by-record (Curve k x y) e a =
-      break-behind-record behind some-behind bytes octets found k x y e
-      (by-radius k x y (layout-inside bytes k x y e) (field_at radius_rule bytes (record_end k x y)) refl a)
-  by-record (NoCurve fault) e a =
+  by-record (Ok l) e a =
+      break-behind-record behind some-behind bytes octets found l.knots l.xs l.ys e
+      (by-radius l.knots l.xs l.ys (layout-inside bytes l.knots l.xs l.ys e) (field_at radius_rule bytes (record_end l.knots l.xs l.ys)) refl a)
+  by-record (Err fault) e a =
       let same : fault ≡ found = cc in
-      record-breaks behind some-behind bytes octets found (e ∙ ap NoCurve same)
+      record-breaks behind some-behind bytes octets found (e ∙ ap Err same)
 
   -- bytes that are judged broken have their fault there
-  pub job-fault : job_layout bytes ≡ Broken found → Fault jobs bytes found.number found.place
+  pub job-fault : job_layout bytes ≡ Err found → Fault jobs bytes (number_of found.refusal) found.place
   unfolding job_layout
   job-fault e = fault-same job-kind bytes (breaks-fault (by-record (record_layout bytes) refl e))
+
+  pub judged_broken : job_layout bytes ≡ Err found → (answer : Result (Unit {0}) Break) → answer ≡ Err found → JobJudged bytes answer
+  judged_broken e answer is = rw is (faulty found (job-fault e))
 
 -- nothing can stand behind the last clamp
 longer : (front : List ℕ) → FullJob form1 front → (b : ℕ) (rest : List ℕ) → IsJob form1 (front ++ b ∷ rest) → ⊥
@@ -238,9 +238,9 @@ jobs-told =
           left-over-there jobs bytes at inside full full.job (job-whole (take at bytes) full.job) (longer (take at bytes) full);
     }
   where
-    by : (bytes : List ℕ) → Octets bytes → (l : JobLayout) → job_layout bytes ≡ l → IsJob form1 bytes ⊎ ((number : ℕ) × (place : ℕ) × Fault jobs bytes number place)
-    by bytes octets (Sound k x y n) e = inl (job-of-sound bytes octets k x y n e)
-    by bytes octets (Broken found) e = inr (found.number, found.place, job-fault bytes octets found e)
+    by : (bytes : List ℕ) → Octets bytes → (l : Result JobLayout Break) → job_layout bytes ≡ l → IsJob form1 bytes ⊎ ((number : ℕ) × (place : ℕ) × Fault jobs bytes number place)
+    by bytes octets (Ok l) e = inl (job-of-sound bytes octets l.curve.knots l.curve.xs l.curve.ys l.clamps e)
+    by bytes octets (Err found) e = inr (number_of found.refusal, found.place, job-fault bytes octets found e)
 
 -- and where that front is a job itself, it is the byte behind it that is left over
 pub job-left-over : (front : List ℕ) (b : ℕ) (rest : List ℕ) → job_most ≤ length front → IsJob form1 front → Fault jobs (front ++ b ∷ rest) left_over_refused job_most

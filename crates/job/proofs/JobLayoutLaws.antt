@@ -1,4 +1,5 @@
 -- Bytes that are judged sound are the job of the lists that stand in them.
+use Rattle.std.specs.Prelude.{Result, Ok, Err}
 use mathlib.Core.Path.{◌≡◌, refl, ap, ◌∙◌}
 use mathlib.Core.List.{List, ◌++◌}
 use Prim.Native.Nat.{ℕ, ◌+◌, ◌≤◌}
@@ -10,64 +11,64 @@ use Rattle.fields.proofs.PlaceLaws.{length-entries_at}
 use Rattle.format.specs.Format.{form1, record_bytes}
 use Rattle.format.specs.RecordPlaces.{record_end}
 use Rattle.format.proofs.EntryLaws.{knot-small}
-use Rattle.layout.specs.Judging.{record_layout}
+use Rattle.layout.specs.Judging.{sound as laid, record_layout}
 use Rattle.layout.specs.StoredCurve.{degree_in, curve_in}
 use Rattle.taken_field.specs.Taking.{field_at}
 use Rattle.taken_field.specs.declared.Break.{Break}
-use Rattle.taken_field.specs.declared.Taken.{Taken}
-use Rattle.taken_field.specs.declared.Taken.TheVariants.{Field, Broken as NoField}
 use Rattle.layout.specs.declared.Layout.{Layout}
-use Rattle.layout.specs.declared.Layout.TheVariants.{Sound as Curve, Broken as NoCurve}
 use Rattle.layout.proofs.RecordLaws.{layout-storable, layout-record}
 use Rattle.cutter.specs.Radius.{radius_field}
 use Rattle.cutter.specs.Standing.{radius_rule}
 use Rattle.cutter.proofs.FieldLaws.{RadiusThere, radius-known}
 use Rattle.clamps.specs.Clamp.{clamp_field_bytes, clamp_at}
 use Rattle.clamps.specs.Tail.{clamps_behind}
-use Rattle.clamps.specs.declared.Tail.{Tail}
-use Rattle.clamps.specs.declared.Tail.TheVariants.{Clamps, Broken as NoClamps}
 use Rattle.clamps.proofs.ClampLaws.{Run, clamps-known, clamps-fit}
 use Rattle.job.specs.JobFormat.{job_bytes, StorableJob, IsJob}
-use Rattle.job.specs.JobJudging.{with_clamps, clamps_start, from_radius, behind_record, from_record, job_layout}
+use Rattle.job.specs.JobJudging.{sound, with_clamps, clamps_start, from_radius, behind_record, from_record, job_layout}
 use Rattle.job.specs.StoredJob.{radius_in, clamps_in}
-use Rattle.job.specs.declared.JobLayout.TheVariants.{Sound, Broken}
+use Rattle.job.specs.declared.JobLayout.{JobLayout}
+
+-- a sound layout tells its lengths
+layout_one : (l k : JobLayout) → ◌≡◌ {A = Result JobLayout Break} (Ok l) (Ok k) → l ≡ k
+layout_one l k e = cc e
 
 module _ (k x y n : ℕ) where
-  pub unsound : (fault : Break) → Broken fault ≡ Sound k x y n → ⊥
+  pub unsound : (fault : Break) → Err fault ≡ sound k x y n → ⊥
   unsound fault e = let z : ◌≡◌ {A = ℕ} 0 1 = cc in omega arith
 
   -- what a sound layout of a job says
   pub record Joined (bytes : List ℕ) : Type 0 where
-    pub curve : record_layout bytes ≡ Curve k x y
+    pub curve : record_layout bytes ≡ laid k x y
     pub len : ℕ
-    pub radius : field_at radius_rule bytes (record_end k x y) ≡ Field len
-    pub tail : clamps_behind bytes (clamps_start k x y) ≡ Clamps n
+    pub radius : field_at radius_rule bytes (record_end k x y) ≡ Ok len
+    pub tail : clamps_behind bytes (clamps_start k x y) ≡ Ok n
 
-  joined-tail : (bytes : List ℕ) (p q r len : ℕ) → record_layout bytes ≡ Curve p q r → field_at radius_rule bytes (record_end p q r) ≡ Field len
-      → (t : Tail) → clamps_behind bytes (clamps_start p q r) ≡ t → with_clamps p q r t ≡ Sound k x y n → Joined bytes
-  joined-tail bytes p q r len e g (NoClamps fault) f a = absurd (unsound fault a)
-  joined-tail bytes p q r len e g (Clamps c) f a =
-      let is_k : p ≡ k = cc in
-      let is_x : q ≡ x = cc in
-      let is_y : r ≡ y = cc in
-      let is_n : c ≡ n = cc in
+  joined-tail : (bytes : List ℕ) (p q r len : ℕ) → record_layout bytes ≡ laid p q r → field_at radius_rule bytes (record_end p q r) ≡ Ok len
+      → (t : Result ℕ Break) → clamps_behind bytes (clamps_start p q r) ≡ t → with_clamps p q r t ≡ sound k x y n → Joined bytes
+  joined-tail bytes p q r len e g (Err fault) f a = absurd (unsound fault a)
+  joined-tail bytes p q r len e g (Ok c) f a =
+      let same = layout_one (record { curve = record { knots = p; xs = q; ys = r }; clamps = c }) (record { curve = record { knots = k; xs = x; ys = y }; clamps = n }) a in
+      let is_k : p ≡ k = ap (λ (l : JobLayout). l.curve.knots) same in
+      let is_x : q ≡ x = ap (λ (l : JobLayout). l.curve.xs) same in
+      let is_y : r ≡ y = ap (λ (l : JobLayout). l.curve.ys) same in
+      let is_n : c ≡ n = ap (λ (l : JobLayout). l.clamps) same in
       record { curve = rw (← is_k, ← is_x, ← is_y) e; len = len; radius = rw (← is_k, ← is_x, ← is_y) g; tail = rw (← is_k, ← is_x, ← is_y, ← is_n) f }
 
-  joined-radius : (bytes : List ℕ) (p q r : ℕ) → record_layout bytes ≡ Curve p q r → (t : Taken) → field_at radius_rule bytes (record_end p q r) ≡ t
-      → from_radius bytes p q r t ≡ Sound k x y n → Joined bytes
-  joined-radius bytes p q r e (NoField fault) g a = absurd (unsound fault a)
-  joined-radius bytes p q r e (Field len) g a = joined-tail bytes p q r len e g (clamps_behind bytes (clamps_start p q r)) refl a
+  joined-radius : (bytes : List ℕ) (p q r : ℕ) → record_layout bytes ≡ laid p q r → (t : Result ℕ Break) → field_at radius_rule bytes (record_end p q r) ≡ t
+      → from_radius bytes p q r t ≡ sound k x y n → Joined bytes
+  joined-radius bytes p q r e (Err fault) g a = absurd (unsound fault a)
+  joined-radius bytes p q r e (Ok len) g a = joined-tail bytes p q r len e g (clamps_behind bytes (clamps_start p q r)) refl a
 
-  joined_by : (bytes : List ℕ) (l : Layout) → record_layout bytes ≡ l → from_record bytes l ≡ Sound k x y n → Joined bytes
+  joined_by : (bytes : List ℕ) (l : Result Layout Break) → record_layout bytes ≡ l → from_record bytes l ≡ sound k x y n → Joined bytes
   unfolding behind_record
-  joined_by bytes (NoCurve fault) e a = absurd (unsound fault a)
-  joined_by bytes (Curve p q r) e a = joined-radius bytes p q r e (field_at radius_rule bytes (record_end p q r)) refl a
+  joined_by bytes (Err fault) e a = absurd (unsound fault a)
+  joined_by bytes (Ok l) e a = joined-radius bytes l.knots l.xs l.ys e (field_at radius_rule bytes (record_end l.knots l.xs l.ys)) refl a
 
-  pub job-joined : (bytes : List ℕ) → job_layout bytes ≡ Sound k x y n → Joined bytes
+  pub job-joined : (bytes : List ℕ) → job_layout bytes ≡ sound k x y n → Joined bytes
   unfolding job_layout
   job-joined bytes e = joined_by bytes (record_layout bytes) refl e
 
-module _ (bytes : List ℕ) (octets : Octets bytes) (k x y n : ℕ) (e : job_layout bytes ≡ Sound k x y n) where
+module _ (bytes : List ℕ) (octets : Octets bytes) (k x y n : ℕ) (e : job_layout bytes ≡ sound k x y n) where
   joined : Joined k x y n bytes
   joined = job-joined k x y n bytes e
 

@@ -1,7 +1,8 @@
 -- What judging and reading a job answer and leave, by what the bytes are (headings "The record on disk" and "Numbers of refusal").
-use Rattle.std.specs.Prelude.{Bool, ◌&&◌, List, ◌≡◌, ℕ, leb, ℤ, length}
+use Rattle.std.specs.Prelude.{Bool, ◌&&◌, List, Result, Ok, Err, ◌≡◌, ℕ, leb, ℤ, length}
 use Rattle.lent.specs.Lent.{after}
-use Rattle.refusal.specs.Judging.{unless, answered}
+use Rattle.refusal.specs.Answers.{number_of as refusal_number}
+use Rattle.refusal.specs.Judging.{unless}
 use Rattle.refusal.specs.Numbers.{accepted, radius_refused, rectangle_refused, room_refused}
 use Rattle.curve.specs.HandingOver.{room_for, handed_over}
 use Rattle.curve.specs.Lists.{Lists}
@@ -13,15 +14,14 @@ use Rattle.fault.specs.Fault.{Fault}
 use Rattle.fault.specs.Verdict.{Verdict, judged, broken, number_of}
 use Rattle.job.specs.JobFormat.{IsJob, jobs}
 use Rattle.taken_field.specs.declared.Break.{Break}
-use Rattle.job.specs.declared.Judged.{Judged}
-use Rattle.job.specs.declared.Judged.TheVariants.{Sound, Broken as Faulty}
-use Rattle.job.specs.declared.JobAnswer.{JobAnswer}
-use Rattle.job.specs.declared.JobAnswer.TheVariants.{Job, Broken, Refused}
+use Rattle.taken_field.specs.declared.Failure.{Failure}
+use Rattle.stored_check.specs.Told.{Tells}
+use Rattle.job.specs.declared.Job.{Job}
 
 -- bytes that are only judged: a job, or their leftmost fault
-pub data JobJudged (bytes : List ℕ) : Judged → Type 0 where
-  sound : IsJob form1 bytes → JobJudged bytes Sound
-  faulty : (found : Break) → Fault jobs bytes found.number found.place → JobJudged bytes (Faulty found)
+pub data JobJudged (bytes : List ℕ) : Result (Unit {0}) Break → Type 0 where
+  sound : IsJob form1 bytes → JobJudged bytes (Ok tt)
+  faulty : (found : Break) → Fault jobs bytes (refusal_number found.refusal) found.place → JobJudged bytes (Err found)
 
 -- row 15: the list of sides has four places a clamp, and the curve's three lists have room
 abbrev pub job_room_for : Lists → List Clamp → Lists → ℕ → Bool
@@ -35,9 +35,8 @@ job_number m c radius cs lent places =
     (unless (clamps_ok cs) rectangle_refused (unless (job_room_for c cs lent places) room_refused accepted)))
 
 -- degree, number of points, radius and number of clamps, or the number of the refusal; of broken bytes number and place
-abbrev pub job_answer : Verdict → ℕ → ℕ → ℕ → ℕ → JobAnswer
-job_answer (judged number) m points radius clamps = answered (Job m points radius) Refused number clamps
-job_answer (broken number place) m points radius clamps = Broken number place
+abbrev pub JobAnswers : Verdict → ℕ → ℕ → ℕ → ℕ → Result Job Failure → Type 0
+JobAnswers verdict m points radius clamps answer = Tells verdict (record { degree = m; points = points; radius = radius; clamps = clamps }) answer
 
 -- what bytes come to, with these lists lent and `places` places for sides: a verdict, a degree, a curve's lists, a radius and clamps
 pub data JobComesTo (bytes : List ℕ) (lent : Lists) (places : ℕ) : Verdict → ℕ → Lists → ℕ → List Clamp → Type 0 where
@@ -48,13 +47,13 @@ pub data JobComesTo (bytes : List ℕ) (lent : Lists) (places : ℕ) : Verdict �
       → JobComesTo bytes lent places (broken number place) m c radius cs
 
 -- the answer, the lent lists and the list of sides follow from these
-pub record JobRead (bytes : List ℕ) (before : Lists) (sides_before : List ℤ) (answer : JobAnswer) (now : Lists) (sides_now : List ℤ) : Type 0 where
+pub record JobRead (bytes : List ℕ) (before : Lists) (sides_before : List ℤ) (answer : Result Job Failure) (now : Lists) (sides_now : List ℤ) : Type 0 where
   pub verdict : Verdict
   pub m : ℕ
   pub c : Lists
   pub radius : ℕ
   pub cs : List Clamp
   pub comes_to : JobComesTo bytes before (length sides_before) verdict m c radius cs
-  pub answers : answer ≡ job_answer verdict m (length c.xs) radius (length cs)
+  pub answers : JobAnswers verdict m (length c.xs) radius (length cs) answer
   pub hands : now ≡ handed_over (number_of verdict) c before
   pub clamps_now : sides_now ≡ after (number_of verdict) (all_sides cs) sides_before
