@@ -2,3 +2,4 @@
 pub mod Controls
 pub mod LengthLaws
 pub mod LinesLaws
+pub mod RoomLaws

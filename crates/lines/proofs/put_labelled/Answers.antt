@@ -3,5 +3,5 @@ use Rattle.digits.specs.Decimal.{decimal}
 use Rattle.digits.proofs.PutLaws.{two-joined}
 use Rattle.lines.proofs.put_labelled.Goals as goal
 
-pub returns : goal.returns
-returns c = record { result = two-joined c.args.out.now c.args.at c.args.word.now (decimal c.args.number) c.requires c.put_bytes-behind.ensures.result c.put_decimal.ensures.result }
+pub returns-clause-result : goal.returns-clause-result
+returns-clause-result c = let a = c.args in two-joined a.pen.now.out.now a.pen.now.at a.word.now (decimal a.number) c.requires c.bytes.ensures.result c.decimal.ensures.result

@@ -1,16 +1,11 @@
--- The loop's invariant: the lines on the first k spans stand from `at` on.
-use mathlib.Core.Path.{◌≡◌}
-use Prim.Native.Nat.{◌-◌, ◌≤◌}
-use lib.ListN.{length, take}
+-- The loop's invariant: the lines on the first spans stand from the pen's first place on.
+use Rattle.std.proofs.Common.{◌≡◌}
+use lib.ListN.{take}
 use Rattle.lines.specs.Lines.{meet_lines}
 use Rattle.digits.specs.Put.{Put}
 use Rattle.lines.proofs.put_meet_lines.Given as goal
 
 abbrev pub invariant-loop-k : goal.invariant-loop-k
 invariant-loop-k l =
-    (l.k ≤ length l.lows)
-    × Put l.initial.out l.at (meet_lines l.clamp (take l.k l.lows) (take l.k l.highs)) l.out l.place
-    × (length l.out ≡ length l.initial.out)
-
-abbrev pub decreases-loop-k : goal.decreases-loop-k
-decreases-loop-k l = length l.lows - l.k
+    Put l.initial.pen.out.now l.initial.pen.at (meet_lines l.clamp (take l.k l.lows) (take l.k l.highs)) l.pen.out.now l.pen.at
+    × (l.pen.out.ghost_name ≡ l.initial.pen.out.ghost_name)
