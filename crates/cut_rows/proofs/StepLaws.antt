@@ -1,7 +1,7 @@
 -- A step of a row, place by place, whether it is whole, and its coordinates as code reads them.
-use mathlib.Core.Bool.{Bool, true, false, false≢true}
+use mathlib.Core.Bool.{Bool, true, false≢true}
 use mathlib.Core.List.{List, [], ◌∷◌}
-use mathlib.Core.Path.{◌≡◌, refl, sym, subst, ◌∙◌}
+use mathlib.Core.Path.{◌≡◌, refl, sym, subst}
 use native.Mathlib.Decide.{ℕ_discrete}
 use Prim.Native.Nat.{ℕ, zero, suc, ◌+◌, ◌≤◌, ◌<◌}
 use native.Mathlib.Omega.{arith}
@@ -14,7 +14,7 @@ use Rattle.signed.specs.Division.{divides}
 use Rattle.signed.proofs.FitLaws.{fits32-of-size}
 use Rattle.insertion.specs.Insertion.{point_at}
 use Rattle.cut_rows.specs.Row.{sum_at, width_at, RowStands, MeanOf, Stepped, NextOf}
-use Rattle.cut_rows.specs.declared.Mean.{Mean}
+use Rattle.std.specs.Prelude.{Option, Some, None}
 
 module _ {m : ℕ} {ts : List ℕ} {at low v full : ℕ} {row : List ℤ} (s : RowStands m ts at low v full row) where
   -- a coordinate on the grid is read as it was lent
@@ -61,35 +61,35 @@ module _ {m : ℕ} {ts : List ℕ} {at low v full : ℕ} {row : List ℤ} (s : R
   abbrev Whole : ℕ → Bool
   Whole k = divides (width_at ts at low k) (sum_at ts at low v row k)
 
-  abbrev MeanAt : ℕ → Mean → Type 0
+  abbrev pub MeanAt : ℕ → Option ℤ → Type 0
   MeanAt k r = MeanOf (sum_at ts at low v row k) (width_at ts at low k) r
 
   -- a mean is read as it was made
-  pub mean-read : (k : ℕ) (r : Mean) → MeanAt k r → to_z w32 (of_z w32 r.value) ≡ r.value
-  mean-read k r w = to_z-of_z (fits32-of-size r.value (omega (arith, w.range)))
+  pub mean-read : (k : ℕ) (value : ℤ) → MeanAt k (Some value) → to_z w32 (of_z w32 value) ≡ value
+  mean-read k value w = to_z-of_z (fits32-of-size value (omega (arith, w.value.1)))
 
-  -- one place is made, and its mean decides
-  pub next_one : (last : Mean) → MeanAt m last → full + 1 ≡ m → (next : List ℤ) → Stepped m ts at low v full row next → NextOf m ts at low v full row (record { whole = last.whole; row = next })
+  -- a place that is made is not whole
+  pub next-none : (k : ℕ) → full < k → k ≤ m → MeanAt k None → NextOf m ts at low v full row None
+  next-none k h l w =
+      record { whole = record { whole = λ x. absurd (false≢true x); broken = λ x. (k, h, l, sym w.whole) }; next = tt }
+
+  -- one place is made
+  pub next_one : (last : ℤ) → MeanAt m (Some last) → full + 1 ≡ m → (next : List ℤ) → Stepped m ts at low v full row next → NextOf m ts at low v full row (Some next)
   next_one last w one next steps =
-      record { whole = record { whole = λ x k h l. all x k h l; broken = λ x. (m, s.less, omega arith, sym w.whole ∙ x) }; next = λ x. steps }
+      record { whole = record { whole = λ x k h l. all k h l; broken = λ x. absurd (false≢true (sym x)) }; next = steps }
     where
-      all : last.whole ≡ true → (k : ℕ) → full < k → k ≤ m → Whole k ≡ true
-      all x k h l = let here : k ≡ m = omega arith in rw here (sym w.whole ∙ x)
+      all : (k : ℕ) → full < k → k ≤ m → Whole k ≡ true
+      all k h l = let here : k ≡ m = omega arith in rw here (sym w.whole)
 
-  -- two are made, of which the first is not whole
-  pub next-broken : (third : Mean) → MeanAt 2 third → third.whole ≡ false → full < 2 → 2 ≤ m → (next : List ℤ) → NextOf m ts at low v full row (record { whole = false; row = next })
-  next-broken third w e h l next =
-      record { whole = record { whole = λ x. absurd (false≢true x); broken = λ x. (2, h, l, sym w.whole ∙ e) }; next = λ x. absurd (false≢true x) }
-
-  -- two are made, the first is whole, and the last decides
-  pub next-two : (third last : Mean) → MeanAt 2 third → MeanAt m last → third.whole ≡ true → m ≡ 3 → (next : List ℤ) → Stepped m ts at low v full row next
-      → NextOf m ts at low v full row (record { whole = last.whole; row = next })
-  next-two third last w u e three next steps =
-      record { whole = record { whole = λ x k h l. all x k h l; broken = λ x. (m, s.less, omega arith, sym u.whole ∙ x) }; next = λ x. steps }
+  -- two are made
+  pub next-two : (third last : ℤ) → MeanAt 2 (Some third) → MeanAt m (Some last) → m ≡ 3 → (next : List ℤ) → Stepped m ts at low v full row next
+      → NextOf m ts at low v full row (Some next)
+  next-two third last w u three next steps =
+      record { whole = record { whole = λ x k h l. all k h l; broken = λ x. absurd (false≢true (sym x)) }; next = steps }
     where
-      all : last.whole ≡ true → (k : ℕ) → full < k → k ≤ m → Whole k ≡ true
-      all x k h l =
+      all : (k : ℕ) → full < k → k ≤ m → Whole k ≡ true
+      all k h l =
           elim (ℕ_discrete k m) [
-            | yes here ↦ rw here (sym u.whole ∙ x)
-            | no other ↦ (let here : k ≡ 2 = omega (arith, other, s.least) in rw here (sym w.whole ∙ e))
+            | yes here ↦ rw here (sym u.whole)
+            | no other ↦ (let here : k ≡ 2 = omega (arith, other, s.least) in rw here (sym w.whole))
           ]

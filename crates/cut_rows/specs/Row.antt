@@ -1,12 +1,10 @@
 -- A row, one axis of a span that becomes a piece: four places, of which the first m + 1 hold the points that carry the span. Its low knot stands m times,
 -- its high knot v stands `full` times, and behind the row's place k the knot is entry at + k of `ts`.
-use Rattle.std.specs.Prelude.{Bool, true, false, List, ◌≡◌, ℕ, suc, ◌+◌, ◌-◌, ◌≤◌, ◌<◌, ℤ, pos, nat_abs, ◌+ℤ◌, ◌*ℤ◌, length, get_or}
+use Rattle.std.specs.Prelude.{Bool, true, false, List, ◌≡◌, ℕ, suc, ◌+◌, ◌-◌, ◌≤◌, ◌<◌, ℤ, pos, nat_abs, ◌+ℤ◌, ◌*ℤ◌, length, get_or, Option, IfSome, is_some}
 use Rattle.std.specs.Int.Signed.{quot_z}
 use Rattle.grid.specs.Limits.{coordinate_most}
 use Rattle.signed.specs.Division.{divides}
 use Rattle.insertion.specs.Insertion.{point_at}
-use Rattle.cut_rows.specs.declared.Mean.{Mean}
-use Rattle.cut_rows.specs.declared.Next.{Next}
 
 -- above the line of a mean: (v - low)·q + (high - v)·p
 abbrev pub mean_sum : ℕ → ℕ → ℕ → ℤ → ℤ → ℤ
@@ -29,11 +27,10 @@ pub record RowStands (m : ℕ) (ts : List ℕ) (at low v full : ℕ) (row : List
   pub behind : (k : ℕ) → full < k → k ≤ m → v ≤ get_or ts (at + k) 0
   pub range : (k : ℕ) → nat_abs (point_at row k) ≤ coordinate_most
 
--- what a mean is, that it is on the grid, and whether it is whole
-pub record MeanOf (sum width : ℤ) (r : Mean) : Type 0 where
-  pub whole : r.whole ≡ divides width sum
-  pub value : r.value ≡ quot_z sum width
-  pub range : nat_abs r.value ≤ coordinate_most
+-- whether a mean is whole, and where it is, what it is and that it is on the grid
+pub record MeanOf (sum width : ℤ) (r : Option ℤ) : Type 0 where
+  pub whole : is_some r ≡ divides width sum
+  pub value : IfSome r (λ value. (value ≡ quot_z sum width) × (nat_abs value ≤ coordinate_most))
 
 -- the places that are made anew are all whole, or one is not
 pub record WholeOutcome (m : ℕ) (ts : List ℕ) (at low v full : ℕ) (row : List ℤ) (r : Bool) : Type 0 where
@@ -47,10 +44,10 @@ pub record Stepped (m : ℕ) (ts : List ℕ) (at low v full : ℕ) (row next : L
   pub made : (k : ℕ) → full < k → k ≤ m → point_at next k ≡ quot_z (sum_at ts at low v row k) (width_at ts at low k)
   pub unused : (k : ℕ) → m < k → k < 4 → point_at next k ≡ point_at row k
 
--- both; where one is not whole nothing is said of the row
-pub record NextOf (m : ℕ) (ts : List ℕ) (at low v full : ℕ) (row : List ℤ) (r : Next) : Type 0 where
-  pub whole : WholeOutcome m ts at low v full row r.whole
-  pub next : r.whole ≡ true → Stepped m ts at low v full row r.row
+-- both; where one is not whole there is no row
+pub record NextOf (m : ℕ) (ts : List ℕ) (at low v full : ℕ) (row : List ℤ) (r : Option (List ℤ)) : Type 0 where
+  pub whole : WholeOutcome m ts at low v full row (is_some r)
+  pub next : IfSome r (λ next. Stepped m ts at low v full row next)
 
 -- three points with one more in front
 pub record Pushed (point : ℤ) (behind now : List ℤ) : Type 0 where

@@ -2,7 +2,7 @@
 #![tactic(auto)]
 
 // A piece of a curve: its two knots and its points, x and y; it has one point more than its degree, and unused places are 0.
-#[derive(Clone, Copy)]
+#[derive(Clone, Copy, PartialEq, Eq, Debug)]
 pub struct Piece {
     pub low: u16,
     pub high: u16,

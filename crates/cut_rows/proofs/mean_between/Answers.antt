@@ -1,6 +1,8 @@
 -- The mean of two coordinates on the grid is no further out than they are, so it fits.
 use mir.Syntax.{w32}
-use mathlib.Core.Path.{◌≡◌, ◌∙◌}
+use mathlib.Core.Bool.{true}
+use mathlib.Core.Path.{◌≡◌, sym, ◌∙◌}
+use borrow.Author.Rules.{rules}
 use Prim.Native.Nat.{◌-◌, ◌≤◌}
 use native.Mathlib.Omega.{arith}
 use lib.IntN.{pos, nat_abs}
@@ -25,14 +27,16 @@ within c =
     let a = c.args in
     let s = c.requires in mean-within (a.v - a.low) (a.high - a.v) (a.high - a.low) coordinate_most a.q a.p s.p_bound.1 s.p_bound.0 (omega (arith, s.low_lt_v.0, s.low_lt_v.1))
 
-pub quotient-value-requires : goal.quotient-value-requires
-quotient-value-requires c =
-    let s = c.requires in record { d_nonzero = omega (arith, s.low_lt_v.0, s.low_lt_v.1); d_bound = rw (sum_is c) (omega (arith, within c)) }
+pub quotient-value-requires-clause-d_bound : goal.quotient-value-requires-clause-d_bound
+quotient-value-requires-clause-d_bound c = rw (sum_is c) (omega (arith, within c))
 
-pub returns : goal.returns
-returns c = record {
-  answer = let sum = sum_is (goal.at.returns c).After-weighted_sum-sum in
-      let told = c.quotient-value in let read = to_z-of_z {w = w32} (record { sfits = told.type_inv }) in
+pub returns-then-is_exact : goal.returns-then-is_exact
+returns-then-is_exact c = record {
+  answer = let before = (goal.at.returns-then-is_exact c).After-weighted_sum-sum in
+      let sum = sum_is before in
+      let told = c.quotient-value in
+      let read = to_z-of_z {w = w32} (record { sfits = told.type_inv }) in
       let value = rw sum at told.ensures.answer in
-      record { whole = rw sum at c.is_exact.ensures.answer; value = read ∙ value; range = rw (read, value) (within (goal.at.returns c).After-weighted_sum-sum) };
+      let whole : c.is_exact.result ≡ true = search rules in
+      record { whole = sym whole ∙ (rw sum at c.is_exact.ensures.answer); value = (read ∙ value, rw (read, value) (within before)) };
 }
