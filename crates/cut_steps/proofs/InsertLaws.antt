@@ -6,7 +6,9 @@ use native.Mathlib.Omega.{arith}
 use lib.ListN.{length, get_or}
 use borrow.Author.Tests.{le-ltb, lt-ltb}
 use Rattle.curve.specs.Lists.{Lists}
-use Rattle.refusal.specs.Numbers.{accepted, full_refused, not_whole_refused}
+use Rattle.std.specs.Prelude.{Ok, Err}
+use Rattle.refusal.specs.Numbers.{accepted}
+use Rattle.refusal.specs.declared.Refusal.TheVariants.{Full, NotWhole}
 use Rattle.grid.specs.Limits.{points_most}
 use Rattle.insertion.specs.Insertion.{whole_points}
 use Rattle.insertion.specs.Judged.{value_ok, place_ok, whole_ok}
@@ -38,13 +40,10 @@ module _ (m : ℕ) (c d : Lists) (i k s r : ℕ) (cut : Cut) (st : CutStands m c
   value = value-ok m c d i k r s st.window st.run few
 
   -- the curve is full
-  pub full_refuses : (next : Cut) → points_most ≤ cut.points → next.number ≡ full_refused → Steps m c d i k s r next
+  pub full_refuses : points_most ≤ cut.points → Steps m c d i k s r (Err Full)
   unfolding place_ok
-  full_refuses next full e =
-      record {
-        number = e ∙ judged-place m d v accepted value (le-ltb (length d.xs) points_most (omega (arith, st.count)));
-        goes = λ none. absurd (omega (arith, e, none));
-      }
+  full_refuses full =
+      record { number = judged-place m d v accepted value (le-ltb (length d.xs) points_most (omega (arith, st.count))); goes = tt }
 
   module _ (free : cut.points < points_most) where
     place : place_ok d.xs ≡ true
@@ -60,20 +59,20 @@ module _ (m : ℕ) (c d : Lists) (i k s r : ℕ) (cut : Cut) (st : CutStands m c
         whole-row-whole m c d i k r s st.window st.run few c.ys d.ys cut.y.row (on-y m c d i k r s st.window st.run) st.row_y
 
     -- a point is not whole, on x or else on y
-    broken-refuses : (next : Cut) → whole_ok m d v ≡ false → next.number ≡ not_whole_refused → Steps m c d i k s r next
-    broken-refuses next broken e = record { number = e ∙ judged-whole m d v accepted value place broken; goes = λ none. absurd (omega (arith, e, none)) }
+    broken-refuses : whole_ok m d v ≡ false → Steps m c d i k s r (Err NotWhole)
+    broken-refuses broken = record { number = judged-whole m d v accepted value place broken; goes = tt }
 
-    pub broken-x-refuses : (next : Cut) → WholeOutcome m c.knots (i - r) u v (s + r) cut.x.row false → next.number ≡ not_whole_refused → Steps m c d i k s r next
+    pub broken-x-refuses : WholeOutcome m c.knots (i - r) u v (s + r) cut.x.row false → Steps m c d i k s r (Err NotWhole)
     unfolding whole_ok
-    broken-x-refuses next out =
-        broken-refuses next
+    broken-x-refuses out =
+        broken-refuses
         (rw (broken-row-broken m c d i k r s st.window st.run few c.xs d.xs cut.x.row (on-x m c d i k r s st.window st.run) st.row_x out))
 
-    pub broken-y-refuses : (next : Cut) → WholeOutcome m c.knots (i - r) u v (s + r) cut.x.row true → WholeOutcome m c.knots (i - r) u v (s + r) cut.y.row false
-        → next.number ≡ not_whole_refused → Steps m c d i k s r next
+    pub broken-y-refuses : WholeOutcome m c.knots (i - r) u v (s + r) cut.x.row true → WholeOutcome m c.knots (i - r) u v (s + r) cut.y.row false
+        → Steps m c d i k s r (Err NotWhole)
     unfolding whole_ok
-    broken-y-refuses next first out =
-        broken-refuses next
+    broken-y-refuses first out =
+        broken-refuses
         (rw (
           whole-x first,
           broken-row-broken m c d i k r s st.window st.run few c.ys d.ys cut.y.row (on-y m c d i k r s st.window st.run) st.row_y out,
@@ -82,15 +81,15 @@ module _ (m : ℕ) (c d : Lists) (i k s r : ℕ) (cut : Cut) (st : CutStands m c
     -- all are whole
     pub insertion-goes : (next : Cut) → WholeOutcome m c.knots (i - r) u v (s + r) cut.x.row true → WholeOutcome m c.knots (i - r) u v (s + r) cut.y.row true
         → AxisSteps m c.knots (i - r) u v (s + r) cut.x next.x → AxisSteps m c.knots (i - r) u v (s + r) cut.y next.y
-        → next.points ≡ cut.points + 1 → next.number ≡ accepted → Steps m c d i k s r next
+        → next.points ≡ cut.points + 1 → Steps m c d i k s r (Ok next)
     unfolding whole_ok
-    insertion-goes next first second x y one e =
+    insertion-goes next first second x y one =
         let all : whole_ok m d v ≡ true = rw (whole-x first, whole-y second) in
         let xs = on-x m c d i k r s st.window st.run in
         let ys = on-y m c d i k r s st.window st.run in
         record {
-          number = e ∙ judged-next m d v accepted value place all;
-          goes = λ none. record {
+          number = judged-next m d v accepted value place all;
+          goes = record {
             window = window-steps m c d i k r s st.window st.run few place all;
             run = st.run;
             count = one ∙ omega (arith, st.count, inserted_points-length m d.knots d.xs v);

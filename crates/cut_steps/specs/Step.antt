@@ -1,6 +1,8 @@
 -- One insertion into a curve that is being cut, and all of them at one span. A curve c is cut as far as the span i, behind k pieces; d is what it is then.
-use Rattle.std.specs.Prelude.{List, ◌≡◌, ℕ, ◌+◌, ◌-◌, ℤ, length, get_or, replicate, true}
+use Rattle.std.specs.Prelude.{List, ◌≡◌, ℕ, ◌+◌, ◌-◌, ℤ, length, get_or, replicate, Option, IfSome, is_some, Result, IfOk}
 use Rattle.refusal.specs.Numbers.{accepted}
+use Rattle.refusal.specs.Answers.{number_in}
+use Rattle.refusal.specs.declared.Refusal.{Refusal}
 use Rattle.curve.specs.Lists.{Lists, lists}
 use Rattle.insertion.specs.Insertion.{point_at, inserted}
 use Rattle.insertion.specs.Judged.{insertable_then}
@@ -8,7 +10,6 @@ use Rattle.cutting.specs.Cutting.{inserted_each, insertable_each_then}
 use Rattle.cut_rows.specs.Row.{WholeOutcome, Stepped as RowStepped, Pushed}
 use Rattle.cut_window.specs.Window.{Window, Carried, Behind, Run}
 use Rattle.cut_steps.specs.declared.Axis.{Axis}
-use Rattle.cut_steps.specs.declared.Stepped.{Stepped}
 use Rattle.cut_steps.specs.declared.Cut.{Cut}
 
 -- one axis, one insertion further
@@ -17,9 +18,9 @@ pub record AxisSteps (m : ℕ) (ts : List ℕ) (at low v full : ℕ) (axis next 
   pub behind : Pushed (point_at axis.row m) axis.behind next.behind
 
 -- the same, unless a new point is not whole
-pub record AxisOutcome (m : ℕ) (ts : List ℕ) (at low v full : ℕ) (axis : Axis) (r : Stepped) : Type 0 where
-  pub whole : WholeOutcome m ts at low v full axis.row r.whole
-  pub steps : r.whole ≡ true → AxisSteps m ts at low v full axis r.axis
+pub record AxisOutcome (m : ℕ) (ts : List ℕ) (at low v full : ℕ) (axis : Axis) (r : Option Axis) : Type 0 where
+  pub whole : WholeOutcome m ts at low v full axis.row (is_some r)
+  pub steps : IfSome r (λ next. AxisSteps m ts at low v full axis next)
 
 -- the span's high knot stood s times and was inserted r times; the rows and what is behind them are those of d
 pub record CutStands (m : ℕ) (c d : Lists) (i k s r : ℕ) (cut : Cut) : Type 0 where
@@ -40,11 +41,11 @@ abbrev pub high_of : Lists → ℕ → ℕ
 high_of c i = get_or c.knots (i + 1) 0
 
 -- it is inserted once more, or refused as an insertion into d is
-pub record Steps (m : ℕ) (c d : Lists) (i k s r : ℕ) (next : Cut) : Type 0 where
-  pub number : next.number ≡ insertable_then m d (high_of c i) accepted
-  pub goes : next.number ≡ accepted → CutStands m c (inserted m d (high_of c i)) i k s (r + 1) next
+pub record Steps (m : ℕ) (c d : Lists) (i k s r : ℕ) (next : Result Cut Refusal) : Type 0 where
+  pub number : number_in next ≡ insertable_then m d (high_of c i) accepted
+  pub goes : IfOk next (λ cut. CutStands m c (inserted m d (high_of c i)) i k s (r + 1) cut)
 
 -- it is inserted until it stands m times, or as far as the first insertion that is refused
-pub record Fills (m : ℕ) (c d : Lists) (i k s : ℕ) (next : Cut) : Type 0 where
-  pub number : next.number ≡ insertable_each_then m (replicate (m - s) (high_of c i)) d accepted
-  pub goes : next.number ≡ accepted → CutStands m c (inserted_each m (replicate (m - s) (high_of c i)) d) i k s (m - s) next
+pub record Fills (m : ℕ) (c d : Lists) (i k s : ℕ) (next : Result Cut Refusal) : Type 0 where
+  pub number : number_in next ≡ insertable_each_then m (replicate (m - s) (high_of c i)) d accepted
+  pub goes : IfOk next (λ cut. CutStands m c (inserted_each m (replicate (m - s) (high_of c i)) d) i k s (m - s) cut)
