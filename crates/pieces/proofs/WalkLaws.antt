@@ -9,7 +9,10 @@ use native.Mathlib.Omega.{arith}
 use lib.IntN.{ℤ}
 use lib.ListN.{length, get_or, replicate, length-append}
 use borrow.Author.Tests.{lt-ltb}
+use Rattle.std.specs.Prelude.{Ok, Err}
 use Rattle.refusal.specs.Numbers.{accepted}
+use Rattle.refusal.specs.declared.Refusal.{Refusal}
+use Rattle.refusal.proofs.AnswerLaws.{refused-above_zero}
 use Rattle.curve.specs.Lists.{Lists}
 use Rattle.grid.specs.Limits.{points_most}
 use Rattle.grid.specs.Sizes.{Sizes}
@@ -28,8 +31,8 @@ use Rattle.cut_steps.specs.declared.Cut.{Cut}
 use Rattle.cut_steps.specs.Step.{CutStands, Fills}
 use Rattle.pieces.specs.Loaded.{Loaded}
 use Rattle.pieces.specs.declared.Walk.{Walk}
-use Rattle.pieces.specs.declared.Handed.{Handed}
-use Rattle.pieces.specs.Walk.{cuts_up_to, cut_up_to, AtSpan, Hands, refuses, inner, last, Refuses, Inner, Opened, Closed}
+use Rattle.cutting.specs.declared.Piece.{Piece}
+use Rattle.pieces.specs.Walk.{cuts_up_to, cut_up_to, AtSpan, Handed, inner, last, Refuses, Inner, Opened, Closed}
 use Rattle.pieces.proofs.ValueLaws.{run-most, run-occurs}
 use Rattle.pieces.proofs.TurnLaws.{one-behind, cuts-turn}
 use Rattle.pieces.proofs.PieceLaws.{piece_is}
@@ -70,15 +73,11 @@ module _ (m : ℕ) (c : Lists) (walk : Walk) (at : AtSpan m c walk) where
   d = cut_up_to m c i
 
   -- the last span
-  pub last-hands : (handed : Handed) → i + 1 ≡ length c.xs
-      → handed ≡ record {
-        number = accepted;
-        piece = record { low = get_or c.knots i 0; high = get_or c.knots (i + 1) 0; xs = walk.xs; ys = walk.ys };
-        walk = record { index = k + 1; span = i + 1; points = walk.points; xs = walk.xs; ys = walk.ys };
-      }
-      → Hands m c walk handed
+  pub last-hands : i + 1 ≡ length c.xs
+      → Handed m c walk (record { low = get_or c.knots i 0; high = get_or c.knots (i + 1) 0; xs = walk.xs; ys = walk.ys })
+      (record { index = k + 1; span = i + 1; points = walk.points; xs = walk.xs; ys = walk.ys })
   unfolding span_count
-  last-hands handed end e =
+  last-hands end =
       let w = at.window in
       let here : length c.xs - 1 ≡ i = omega (arith, end) in
       let whole : cuts m c ≡ cuts_up_to m c i = ap (λ n. lacking m c.knots (ends_from c.knots m (n - m))) here in
@@ -88,10 +87,9 @@ module _ (m : ℕ) (c : Lists) (walk : Walk) (at : AtSpan m c walk) where
       let cut-is : cut m c ≡ d = ap (λ l. inserted_each m l c) whole in
       last
       (record {
-        accepts = ap (λ (h : Handed). h.number) e;
-        piece = ap (λ (h : Handed). h.piece) e ∙ piece_is (get_or c.knots i 0) (get_or c.knots (i + 1) 0) walk.xs walk.ys w refl high at.row_x at.row_y ∙ ap (λ f. piece_of m f k) (sym cut-is);
-        index = ap (λ (h : Handed). h.walk.index) e ∙ omega arith;
-        ends = ap (λ (h : Handed). h.walk.span) e ∙ end;
+        piece = piece_is (get_or c.knots i 0) (get_or c.knots (i + 1) 0) walk.xs walk.ys w refl high at.row_x at.row_y ∙ ap (λ f. piece_of m f k) (sym cut-is);
+        index = omega arith;
+        ends = end;
         same = sym cut-is;
         all = ap (λ n. length (keep (non_empty c.knots) (up_from m n))) more
             ∙ ap length (keep-up_to (non_empty c.knots) m i w.least)
@@ -155,8 +153,8 @@ module _ (m : ℕ) (c : Lists) (walk : Walk) (at : AtSpan m c walk) where
         ∙ at.passed (insertable_each_then m (replicate (m - s) v) d next)
 
     -- an insertion is refused
-    fails : (cut' : Cut) (handed : Handed) → Fills m c d i k s cut' → handed.number ≡ cut'.number → (handed.number ≡ accepted → ⊥) → Refuses m c handed
-    fails cut' handed f e broken =
+    pub fails : (refusal : Refusal) → Fills m c d i k s (Err refusal) → Refuses m c refusal
+    fails refusal f =
         let facts = checked-of-passes m c.knots c.xs c.ys at.window.original in
         let split = ends-split c.knots m (i + s) (length c.xs - 1 - (i + s)) (omega (arith, at.window.least)) facts.rising (omega (arith, old.knots, run-within)) in
         let rest = split.rest in
@@ -167,22 +165,17 @@ module _ (m : ℕ) (c : Lists) (walk : Walk) (at : AtSpan m c walk) where
         ∙ lacking-append m c.knots (ends_from c.knots m (i + s - m)) rest in
         let behind-it : ℕ → ℕ = λ next. insertable_each_then m (lacking m c.knots rest) (cut_up_to m c (i + s)) next in
         record {
-          refused = broken;
           number = λ next.
               ap (λ l. insertable_each_then m l c next) whole
               ∙ insertable-append m (cuts_up_to m c (i + s)) (lacking m c.knots rest) c next
               ∙ judged-next (behind-it next)
-              ∙ each-refused m (replicate (m - s) v) d (behind-it next) (λ h. broken (e ∙ f.number ∙ h))
-              ∙ sym f.number
-              ∙ sym e;
+              ∙ each-refused m (replicate (m - s) v) d (behind-it next) (λ h. absurd (omega (arith, refused-above_zero refusal, f.number ∙ h)))
+              ∙ sym f.number;
         }
 
     -- none is
-    module _ (done : Cut) (handed : Handed) (st : CutStands m c (inserted_each m (replicate (m - s) v) d) i k s (m - s) done)
-        (judged : insertable_each_then m (replicate (m - s) v) d accepted ≡ accepted) (o : Closed walk m (get_or c.knots i 0) v s done handed) where
-      abbrev next : Walk
-      next = handed.walk
-
+    module _ (done : Cut) (handed : Piece) (next : Walk) (st : CutStands m c (inserted_each m (replicate (m - s) v) d) i k s (m - s) done)
+        (judged : insertable_each_then m (replicate (m - s) v) d accepted ≡ accepted) (o : Closed walk m (get_or c.knots i 0) v s done handed next) where
       abbrev f : Lists
       f = inserted_each m (replicate (m - s) v) d
 
@@ -223,12 +216,11 @@ module _ (m : ℕ) (c : Lists) (walk : Walk) (at : AtSpan m c walk) where
                 ∙ ap (λ j. length (keep (non_empty c.knots) (up_from m (j - m)))) (sym span-next);
           }
 
-      goes : handed.number ≡ accepted → Inner m c walk handed
-      goes e =
+      goes : Inner m c walk handed next
+      goes =
           let new = sizes-of-passes m d.knots d.xs d.ys at.window.passes in
           let low = at.window.low m old.degree-least (omega arith) in
           record {
-            accepts = e;
             piece = o.piece
                 ∙ piece_is (get_or c.knots i 0) v done.x.row done.y.row st.window refl
                 (sym (high_is m c f i k (m - s) s st.window run 1 (omega arith) (omega (arith, full, old.degree-least)))) st.row_x st.row_y
@@ -241,14 +233,8 @@ module _ (m : ℕ) (c : Lists) (walk : Walk) (at : AtSpan m c walk) where
                 ∙ pieces-stay m k (replicate (m - s) v) d at.window.passes (omega (arith, new.knots, at.window.points, at.window.inside)) (none-below-same (get_or d.knots (k * m + m) 0) v (m - s) (omega (arith, low, at.window.wide))) judged j h;
           }
 
-    pub inner-hands : (done : Cut) (handed : Handed) → Fills m c d i k s done → Closed walk m (get_or c.knots i 0) v s done handed → Hands m c walk handed
-    inner-hands done handed fill o =
-        elim (ℕ_discrete handed.number accepted) [
-          | yes e ↦
-              (let none = sym o.number ∙ e in
-              inner (goes done handed (fill.goes none) (sym fill.number ∙ none) o e))
-          | no e ↦ refuses (fails done handed fill o.number e)
-        ]
+    pub inner-hands : (done : Cut) (handed : Piece) (next : Walk) → Fills m c d i k s (Ok done) → Closed walk m (get_or c.knots i 0) v s done handed next → Handed m c walk handed next
+    inner-hands done handed next fill o = inner (goes done handed next fill.goes (sym fill.number) o)
 
 -- where no insertion is refused at all, the pieces left of a walk are those of the curve
 pub left-of-walk : (m : ℕ) (c : Lists) (walk : Walk) → AtSpan m c walk → insertable_each_then m (cuts m c) c accepted ≡ accepted

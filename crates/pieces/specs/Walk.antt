@@ -1,6 +1,7 @@
 -- A walk over the pieces of a curve c: at each span it has what the curve is where every knot to the left of that span stands m times.
-use Rattle.std.specs.Prelude.{List, ◌≡◌, ℕ, suc, ◌+◌, ◌-◌, ◌<◌, ℤ, length, get_or}
-use Rattle.refusal.specs.Numbers.{accepted}
+use Rattle.std.specs.Prelude.{List, ◌≡◌, ℕ, suc, ◌+◌, ◌-◌, ◌<◌, ℤ, length, get_or, Result, Ok, Err}
+use Rattle.refusal.specs.Answers.{number_of}
+use Rattle.refusal.specs.declared.Refusal.{Refusal}
 use Rattle.curve.specs.Lists.{Lists}
 use Rattle.span_walk.specs.SpansMet.{up_from, keep, non_empty}
 use Rattle.cutting.specs.Cutting.{ends_from, lacking, cuts, inserted_each, insertable_each_then, cut}
@@ -11,7 +12,7 @@ use Rattle.insertion.specs.Insertion.{point_at}
 use Rattle.cut_rows.specs.Row.{Pushed}
 use Rattle.pieces.specs.Loaded.{Loaded}
 use Rattle.pieces.specs.declared.Walk.{Walk}
-use Rattle.pieces.specs.declared.Handed.{Handed}
+use Rattle.cutting.specs.declared.Piece.{Piece}
 
 -- some knot is larger than the one behind the index i
 pub record LargerBehind (ts : List ℕ) (i : ℕ) : Type 0 where
@@ -36,38 +37,38 @@ pub record AtSpan (m : ℕ) (c : Lists) (walk : Walk) : Type 0 where
   pub counted : walk.index ≡ length (keep (non_empty c.knots) (up_from m (walk.span - m)))
 
 -- an insertion is refused: that is the number of cutting, whatever else is to be judged
-pub record Refuses (m : ℕ) (c : Lists) (handed : Handed) : Type 0 where
-  pub refused : handed.number ≡ accepted → ⊥
-  pub number : (next : ℕ) → insertable_each_then m (cuts m c) c next ≡ handed.number
+pub record Refuses (m : ℕ) (c : Lists) (refusal : Refusal) : Type 0 where
+  pub number : (next : ℕ) → insertable_each_then m (cuts m c) c next ≡ number_of refusal
 
 -- the piece of a span that is not the last one, and the walk at the next span; the pieces before it stay what they were
-pub record Inner (m : ℕ) (c : Lists) (walk : Walk) (handed : Handed) : Type 0 where
-  pub accepts : handed.number ≡ accepted
-  pub piece : handed.piece ≡ piece_of m (cut_up_to m c handed.walk.span) walk.index
-  pub index : handed.walk.index ≡ suc walk.index
-  pub rises : walk.span < handed.walk.span
-  pub stands : AtSpan m c handed.walk
-  pub same : (j : ℕ) → j < walk.index → piece_of m (cut_up_to m c handed.walk.span) j ≡ piece_of m (cut_up_to m c walk.span) j
+pub record Inner (m : ℕ) (c : Lists) (walk : Walk) (handed : Piece) (next : Walk) : Type 0 where
+  pub piece : handed ≡ piece_of m (cut_up_to m c next.span) walk.index
+  pub index : next.index ≡ suc walk.index
+  pub rises : walk.span < next.span
+  pub stands : AtSpan m c next
+  pub same : (j : ℕ) → j < walk.index → piece_of m (cut_up_to m c next.span) j ≡ piece_of m (cut_up_to m c walk.span) j
 
 -- the piece of the last span, with which all pieces are handed out and no insertion was refused
-pub record Last (m : ℕ) (c : Lists) (walk : Walk) (handed : Handed) : Type 0 where
-  pub accepts : handed.number ≡ accepted
-  pub piece : handed.piece ≡ piece_of m (cut m c) walk.index
-  pub index : handed.walk.index ≡ suc walk.index
-  pub ends : handed.walk.span ≡ length c.xs
+pub record Last (m : ℕ) (c : Lists) (walk : Walk) (handed : Piece) (next : Walk) : Type 0 where
+  pub piece : handed ≡ piece_of m (cut m c) walk.index
+  pub index : next.index ≡ suc walk.index
+  pub ends : next.span ≡ length c.xs
   pub same : cut_up_to m c walk.span ≡ cut m c
   pub all : piece_count m c ≡ suc walk.index
   pub passed : (next : ℕ) → insertable_each_then m (cuts m c) c next ≡ next
 
--- one of the three
-pub data Hands (m : ℕ) (c : Lists) (walk : Walk) (handed : Handed) : Type 0 where
-  refuses : Refuses m c handed → Hands m c walk handed
-  inner : Inner m c walk handed → Hands m c walk handed
-  last : Last m c walk handed → Hands m c walk handed
+-- one of the two
+pub data Handed (m : ℕ) (c : Lists) (walk : Walk) (handed : Piece) (next : Walk) : Type 0 where
+  inner : Inner m c walk handed next → Handed m c walk handed next
+  last : Last m c walk handed next → Handed m c walk handed next
+
+-- what a step answers: a piece and the walk behind it, or the refusal of an insertion
+abbrev pub Hands : ℕ → Lists → Walk → Result (Piece × Walk) Refusal → Type 0
+Hands m c walk (Ok handed) = Handed m c walk handed.0 handed.1
+Hands m c walk (Err refusal) = Refuses m c refusal
 
 -- the span as the walk has it, with s points behind it and nothing inserted
 pub record Opened (xs ys : List ℤ) (walk : Walk) (s : ℕ) (cut : Cut) : Type 0 where
-  pub accepts : cut.number ≡ accepted
   pub count : cut.points ≡ walk.points
   pub row_x : cut.x.row ≡ walk.xs
   pub row_y : cut.y.row ≡ walk.ys
@@ -75,11 +76,10 @@ pub record Opened (xs ys : List ℤ) (walk : Walk) (s : ℕ) (cut : Cut) : Type 
   pub behind_y : Loaded ys (walk.span + 1) s cut.y.behind
 
 -- what is handed out of the span when its insertions are done
-pub record Closed (walk : Walk) (m low high s : ℕ) (cut : Cut) (handed : Handed) : Type 0 where
-  pub number : handed.number ≡ cut.number
-  pub piece : handed.piece ≡ record { low = low; high = high; xs = cut.x.row; ys = cut.y.row }
-  pub index : handed.walk.index ≡ walk.index + 1
-  pub span : handed.walk.span ≡ walk.span + s
-  pub count : handed.walk.points ≡ cut.points
-  pub next_x : Pushed (point_at cut.x.row m) cut.x.behind handed.walk.xs
-  pub next_y : Pushed (point_at cut.y.row m) cut.y.behind handed.walk.ys
+pub record Closed (walk : Walk) (m low high s : ℕ) (cut : Cut) (handed : Piece) (next : Walk) : Type 0 where
+  pub piece : handed ≡ record { low = low; high = high; xs = cut.x.row; ys = cut.y.row }
+  pub index : next.index ≡ walk.index + 1
+  pub span : next.span ≡ walk.span + s
+  pub count : next.points ≡ cut.points
+  pub next_x : Pushed (point_at cut.x.row m) cut.x.behind next.xs
+  pub next_y : Pushed (point_at cut.y.row m) cut.y.behind next.ys

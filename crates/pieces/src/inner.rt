@@ -3,14 +3,17 @@ ghost use Rattle.std.specs.Prelude.{◌+◌, ◌≤◌, ◌<◌, length};
 ghost use Rattle.curve.specs.Lists.{lists};
 ghost use Rattle.grid.specs.Limits.{points_most};
 ghost use Rattle.insertion.specs.Insertion.{point_at};
+ghost use Rattle.checked.specs.Along.{lists_of};
 ghost use Rattle.cut_rows.specs.Row.{Pushed};
 ghost use Rattle.pieces.specs.Walk.{AtSpan, Hands, Opened, Closed};
 
+use crate::Walk;
 use crate::loading::loaded;
 use crate::runs::run_behind;
-use crate::{Handed, Walk};
+use checked::Curve;
 use cut_steps::{Axis, Cut};
 use cutting::Piece;
+use refusal::Refusal;
 
 // The span as the walk has it, nothing inserted yet, with the s points behind it.
 fn opened(xs: &[i32], ys: &[i32], walk: Walk, s: usize) -> Cut
@@ -21,7 +24,6 @@ fn opened(xs: &[i32], ys: &[i32], walk: Walk, s: usize) -> Cut
     let row_x = walk.xs;
     let row_y = walk.ys;
     Cut {
-        number: refusal::ACCEPTED,
         points: walk.points,
         x: Axis {
             row: row_x,
@@ -39,45 +41,37 @@ fn turned(axis: Axis, m: usize) -> [i32; 4]
     requires { m ≤ 3 }
     ensures answer { Pushed (point_at axis.row m) axis.behind result }
 {
-    let row = axis.row;
-    let behind = axis.behind;
-    cut_rows::pushed(row[m], behind)
+    cut_rows::pushed(axis.row[m], axis.behind)
 }
 
 // What is handed out of a span from `low` to `high`, whose high knot stood s times, when its insertions are done.
-fn closed(walk: Walk, m: usize, low: u16, high: u16, s: usize, cut: Cut) -> Handed
+fn closed(walk: Walk, m: usize, low: u16, high: u16, s: usize, cut: Cut) -> (Piece, Walk)
     requires { (m ≤ 3) × (s ≤ 4) × (walk.index ≤ points_most) × (walk.span ≤ points_most) }
-    ensures answer { Closed walk m low high s cut result }
+    ensures answer { Closed walk m low high s cut result.0 result.1 }
 {
-    let x = cut.x;
-    let y = cut.y;
-    let row_x = x.row;
-    let row_y = y.row;
-    Handed {
-        number: cut.number,
-        piece: Piece {
-            low,
-            high,
-            xs: row_x,
-            ys: row_y,
-        },
-        walk: Walk {
-            index: walk.index + 1,
-            span: walk.span + s,
-            points: cut.points,
-            xs: turned(x, m),
-            ys: turned(y, m),
-        },
-    }
+    let xs = cut.x.row;
+    let ys = cut.y.row;
+    let piece = Piece { low, high, xs, ys };
+    let next = Walk {
+        index: walk.index + 1,
+        span: walk.span + s,
+        points: cut.points,
+        xs: turned(cut.x, m),
+        ys: turned(cut.y, m),
+    };
+    (piece, next)
 }
 
 // The high knot is inserted until it stands m times, and the piece is handed out.
-pub(crate) fn inner_piece(m: usize, knots: &[u16], xs: &[i32], ys: &[i32], walk: Walk) -> Handed
-    requires { AtSpan m (lists knots.now xs.now ys.now) walk × (walk.span + 1 < length xs.now) }
-    ensures answer { Hands m (lists knots.now xs.now ys.now) walk result }
+pub(crate) fn inner_piece(curve: Curve<'_>, walk: Walk) -> Result<(Piece, Walk), Refusal>
+    requires { AtSpan curve.degree (lists curve.knots.now curve.xs.now curve.ys.now) walk × (walk.span + 1 < length curve.xs.now) }
+    ensures answer { Hands curve.entry.degree (lists_of curve.entry) walk result }
 {
+    let m = curve.degree;
+    let knots = curve.knots;
     let i = walk.span;
     let s = run_behind(knots, i);
-    let cut = cut_steps::insert_rest(opened(xs, ys, walk, s), m, knots, i, s);
-    closed(walk, m, knots[i], knots[i + 1], s, cut)
+    let begun = opened(curve.xs, curve.ys, walk, s);
+    let cut = cut_steps::insert_rest(begun, m, knots, i, s)?;
+    Ok(closed(walk, m, knots[i], knots[i + 1], s, cut))
 }

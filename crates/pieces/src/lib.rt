@@ -6,16 +6,18 @@ mod inner;
 mod loading;
 mod runs;
 
-ghost use Rattle.std.specs.Prelude.{◌≡◌, List, ℕ, ◌+◌, ℤ, length};
+ghost use Rattle.std.specs.Prelude.{◌≡◌, ◌+◌, length};
 ghost use Rattle.curve.specs.Lists.{lists};
-ghost use Rattle.grid.specs.Check.{Passes};
+ghost use Rattle.checked.specs.Along.{lists_of};
 ghost use Rattle.checked.specs.Checked.{Clamped};
-ghost use Rattle.pieces.specs.Walk.{AtSpan, Hands};
+ghost use Rattle.pieces.specs.Walk.{AtSpan, Handed, Hands};
 
+use checked::Curve;
 use cutting::Piece;
+use refusal::Refusal;
 
 // Where a walk stands: the number of pieces behind it, the index of the span's low knot, the points of the whole curve so far, and those that carry the span.
-#[derive(Clone, Copy)]
+#[derive(Clone, Copy, PartialEq, Eq, Debug)]
 pub struct Walk {
     pub index: usize,
     pub span: usize,
@@ -24,64 +26,53 @@ pub struct Walk {
     pub ys: [i32; 4],
 }
 
-// What a step hands out: 0 or the number of the insertion that failed, the piece, and the walk behind it.
-#[derive(Clone, Copy)]
-pub struct Handed {
-    pub number: u32,
-    pub piece: Piece,
-    pub walk: Walk,
-}
-
 // The walk at the first span.
-pub fn start(m: usize, xs: &[i32], ys: &[i32]) -> Walk
-    requires { (ts : List ℕ) × Passes m ts xs.now ys.now }
-    ensures answer { (ts : List ℕ) → Passes m ts xs.now ys.now → Clamped m ts (length xs.now) → AtSpan m (lists ts xs.now ys.now) result }
+pub fn start(curve: Curve<'_>) -> Walk
+    ensures answer { Clamped curve.entry.degree curve.entry.knots.now (length curve.entry.xs.now)
+        → AtSpan curve.entry.degree (lists_of curve.entry) result }
     ensures first { result.index ≡ 0 }
 {
-    let width = m + 1;
+    let width = curve.degree + 1;
     Walk {
         index: 0,
-        span: m,
-        points: xs.len(),
-        xs: loading::loaded(xs, 0, width),
-        ys: loading::loaded(ys, 0, width),
+        span: curve.degree,
+        points: curve.xs.len(),
+        xs: loading::loaded(curve.xs, 0, width),
+        ys: loading::loaded(curve.ys, 0, width),
     }
 }
 
 // The piece of the last span, with which the walk leaves the curve.
-fn last_piece(knots: &[u16], walk: Walk) -> Handed
-    requires { (m : ℕ) × (cx : List ℤ) × (cy : List ℤ) × AtSpan m (lists knots.now cx cy) walk × (walk.span + 1 ≡ length cx) }
-    ensures answer { (m : ℕ) (cx cy : List ℤ) → AtSpan m (lists knots.now cx cy) walk → walk.span + 1 ≡ length cx
-        → Hands m (lists knots.now cx cy) walk result }
+fn last_piece(curve: Curve<'_>, walk: Walk) -> (Piece, Walk)
+    requires { AtSpan curve.degree (lists curve.knots.now curve.xs.now curve.ys.now) walk × (walk.span + 1 ≡ length curve.xs.now) }
+    ensures answer { Handed curve.entry.degree (lists_of curve.entry) walk result.0 result.1 }
 {
     let i = walk.span;
     let xs = walk.xs;
     let ys = walk.ys;
-    Handed {
-        number: refusal::ACCEPTED,
-        piece: Piece {
-            low: knots[i],
-            high: knots[i + 1],
-            xs,
-            ys,
-        },
-        walk: Walk {
-            index: walk.index + 1,
-            span: i + 1,
-            points: walk.points,
-            xs,
-            ys,
-        },
-    }
+    let piece = Piece {
+        low: curve.knots[i],
+        high: curve.knots[i + 1],
+        xs,
+        ys,
+    };
+    let next = Walk {
+        index: walk.index + 1,
+        span: i + 1,
+        points: walk.points,
+        xs,
+        ys,
+    };
+    (piece, next)
 }
 
 // The piece of the span where the walk stands, and the walk at the next; or why an insertion there is refused.
-pub fn next_piece(m: usize, knots: &[u16], xs: &[i32], ys: &[i32], walk: Walk) -> Handed
-    requires { AtSpan m (lists knots.now xs.now ys.now) walk }
-    ensures answer { Hands m (lists knots.now xs.now ys.now) walk result }
+pub fn next_piece(curve: Curve<'_>, walk: Walk) -> Result<(Piece, Walk), Refusal>
+    requires { AtSpan curve.degree (lists curve.knots.now curve.xs.now curve.ys.now) walk }
+    ensures answer { Hands curve.entry.degree (lists_of curve.entry) walk result }
 {
-    if walk.span + 1 == xs.len() {
-        return last_piece(knots, walk);
+    if walk.span + 1 == curve.xs.len() {
+        return Ok(last_piece(curve, walk));
     }
-    inner::inner_piece(m, knots, xs, ys, walk)
+    inner::inner_piece(curve, walk)
 }

@@ -8,10 +8,8 @@ pub(crate) fn loaded(ps: &[i32], from: usize, count: usize) -> [i32; 4]
     ensures answer { Loaded ps.now from count result }
 {
     let mut row = [0i32; 4];
-    let mut k = 0;
-    while k < count {
+    for k in 0..count {
         row[k] = ps[from + k];
-        k += 1;
     }
     row
 }

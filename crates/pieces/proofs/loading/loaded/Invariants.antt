@@ -1,10 +1,6 @@
 -- The loop's invariant: the first k places hold the coordinates, the others 0.
-use Prim.Native.Nat.{◌-◌, ◌≤◌}
 use Rattle.pieces.specs.Loaded.{Loaded}
 use Rattle.pieces.proofs.loading.loaded.Given as goal
 
 abbrev pub invariant-loop-k : goal.invariant-loop-k
-invariant-loop-k l = (l.k ≤ l.count) × Loaded l.ps l.from l.k l.row
-
-abbrev pub decreases-loop-k : goal.decreases-loop-k
-decreases-loop-k l = l.count - l.k
+invariant-loop-k l = Loaded l.ps l.from l.k l.row
