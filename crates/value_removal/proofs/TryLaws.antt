@@ -1,5 +1,6 @@
 -- One try at the front's end: the window comes back into the lists as it was, or with the newest knot gone.
-use mathlib.Core.Bool.{Bool}
+use Rattle.std.specs.Prelude.{Result, Ok, Err}
+use Rattle.refusal.specs.declared.Refusal.{Refusal}
 use mathlib.Core.List.{List, ◌++◌}
 use mathlib.Core.Path.{◌≡◌, sym, ap, ◌∙◌}
 use Prim.Native.Nat.{ℕ, ◌+◌, ◌-◌, ◌≤◌, ◌<◌}
@@ -81,47 +82,42 @@ module _ (m n : ℕ) (ks : List ℕ) (xs ys : List ℤ) (g : Growing m n ks xs y
           let e = rw at at (after-new (j - window_at m n) (omega (arith, g.enough))) in
           rw e (new (j - window_at m n)))
 
-  pub try-outcome : (r : Bool) → WindowOutcome m (window_knots m n ks) (window_points m n xs) (window_points m n ys) wk wx wy r
+  pub try-outcome : (r : Result (Unit {0}) Refusal) → WindowOutcome m (window_knots m n ks) (window_points m n xs) (window_points m n ys) wk wx wy r
       → TryOutcome m n ks xs ys knots_after (points_after xs wx) (points_after ys wy) r
-  try-outcome r o =
+  try-outcome (Ok removed) s =
+      let room_x = g.holding.room_xs in
+      let room_y = g.holding.room_ys in
       record {
-        removed = λ t.
-            let s = o.removed t in
-            let room_x = g.holding.room_xs in
-            let room_y = g.holding.room_ys in
-            record {
-              removes = λ rk rx ry p.
-                  tail-removes m n ks xs ys g last rk rx ry p knots_after (points_after xs wx) (points_after ys wy) wk wx wy s
-                  (put-length (n - m - 2) (n + m + 1 - (n - m - 2)) ks wk (omega (arith, g.enough, g.holding.room_knots)) (omega (arith, long s, g.enough)))
-                  (after-size s xs wx s.px room_x s.on_x.count s.new_xs) (after-size s ys wy s.py room_y s.on_y.count s.new_ys)
-                  (λ j h. put-before 0 (window_at m n) ks wk (drop (n + m + 1 - (n - m - 2)) (drop (n - m - 2) ks)) j fits h)
-                  (after-before s xs wx s.px room_x s.on_x.count s.new_xs) (after-before s ys wy s.py room_y s.on_y.count s.new_ys)
-                  (new-knot s)
-                  (after-new s xs wx s.px room_x s.on_x.count s.new_xs) (after-new s ys wy s.py room_y s.on_y.count s.new_ys);
-              before = λ j h. either j (window_at m n)
-                  (λ left. put-before 0 (window_at m n) ks wk (drop (n + m + 1 - (n - m - 2)) (drop (n - m - 2) ks)) j fits left)
-                  (λ right.
-                  let at : window_at m n + (j - window_at m n) ≡ j = omega arith in
-                  rw at at (new-knot s (j - window_at m n) (omega (arith, g.enough))
-                  ∙ closed-before m (window_knots m n ks) (window-knots m n ks xs ys g last) (j - window_at m n) (omega (arith, g.enough))
-                  ∙ knot-in m n ks xs ys g last (j - window_at m n) (omega (arith, g.enough))));
-              behind = λ j h i.
-                  let at : window_at m n + (j - window_at m n) ≡ j = omega (arith, g.enough) in
-                  let to : window_at m n + (j - window_at m n + 1) ≡ j + 1 = omega (arith, g.enough) in
-                  ap (λ (k : ℕ). get_or knots_after k 0) (sym at)
-                  ∙ new-knot s (j - window_at m n) (omega (arith, g.enough))
-                  ∙ closed-behind m (window_knots m n ks) (window-knots m n ks xs ys g last) (j - window_at m n) (omega (arith, g.enough))
-                  ∙ knot-in m n ks xs ys g last (j - window_at m n + 1) (omega (arith, g.enough))
-                  ∙ ap (λ (k : ℕ). get_or ks k 0) to;
-              range_xs = after-range s xs wx s.px room_x s.on_x.count s.new_xs g.range_xs s.on_x.range;
-              range_ys = after-range s ys wy s.py room_y s.on_y.count s.new_ys g.range_ys s.on_y.range;
-            };
-        kept = λ t.
-            let s = o.kept t in
-            record {
-              stays = λ rk rx ry p. tail-stays m n ks xs ys g last rk rx ry p wk wx wy s;
-              same_knots = put_same (n - m - 2) (n + m + 1 - (n - m - 2)) ks wk s.same_knots;
-              same_xs = put_same (n - m - 2) (n - (n - m - 2)) xs wx s.same_xs;
-              same_ys = put_same (n - m - 2) (n - (n - m - 2)) ys wy s.same_ys;
-            };
+        removes = λ rk rx ry p.
+            tail-removes m n ks xs ys g last rk rx ry p knots_after (points_after xs wx) (points_after ys wy) wk wx wy s
+            (put-length (n - m - 2) (n + m + 1 - (n - m - 2)) ks wk (omega (arith, g.enough, g.holding.room_knots)) (omega (arith, long s, g.enough)))
+            (after-size s xs wx s.px room_x s.on_x.count s.new_xs) (after-size s ys wy s.py room_y s.on_y.count s.new_ys)
+            (λ j h. put-before 0 (window_at m n) ks wk (drop (n + m + 1 - (n - m - 2)) (drop (n - m - 2) ks)) j fits h)
+            (after-before s xs wx s.px room_x s.on_x.count s.new_xs) (after-before s ys wy s.py room_y s.on_y.count s.new_ys)
+            (new-knot s)
+            (after-new s xs wx s.px room_x s.on_x.count s.new_xs) (after-new s ys wy s.py room_y s.on_y.count s.new_ys);
+        before = λ j h. either j (window_at m n)
+            (λ left. put-before 0 (window_at m n) ks wk (drop (n + m + 1 - (n - m - 2)) (drop (n - m - 2) ks)) j fits left)
+            (λ right.
+            let at : window_at m n + (j - window_at m n) ≡ j = omega arith in
+            rw at at (new-knot s (j - window_at m n) (omega (arith, g.enough))
+            ∙ closed-before m (window_knots m n ks) (window-knots m n ks xs ys g last) (j - window_at m n) (omega (arith, g.enough))
+            ∙ knot-in m n ks xs ys g last (j - window_at m n) (omega (arith, g.enough))));
+        behind = λ j h i.
+            let at : window_at m n + (j - window_at m n) ≡ j = omega (arith, g.enough) in
+            let to : window_at m n + (j - window_at m n + 1) ≡ j + 1 = omega (arith, g.enough) in
+            ap (λ (k : ℕ). get_or knots_after k 0) (sym at)
+            ∙ new-knot s (j - window_at m n) (omega (arith, g.enough))
+            ∙ closed-behind m (window_knots m n ks) (window-knots m n ks xs ys g last) (j - window_at m n) (omega (arith, g.enough))
+            ∙ knot-in m n ks xs ys g last (j - window_at m n + 1) (omega (arith, g.enough))
+            ∙ ap (λ (k : ℕ). get_or ks k 0) to;
+        range_xs = after-range s xs wx s.px room_x s.on_x.count s.new_xs g.range_xs s.on_x.range;
+        range_ys = after-range s ys wy s.py room_y s.on_y.count s.new_ys g.range_ys s.on_y.range;
+      }
+  try-outcome (Err refusal) s =
+      record {
+        stays = λ rk rx ry p. tail-stays m n ks xs ys g last rk rx ry p wk wx wy s;
+        same_knots = put_same (n - m - 2) (n + m + 1 - (n - m - 2)) ks wk s.same_knots;
+        same_xs = put_same (n - m - 2) (n - (n - m - 2)) xs wx s.same_xs;
+        same_ys = put_same (n - m - 2) (n - (n - m - 2)) ys wy s.same_ys;
       }

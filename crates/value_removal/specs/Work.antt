@@ -1,5 +1,6 @@
 -- Curves whose front stands in working lists and whose rest is still to come, for the inner functions.
-use Rattle.std.specs.Prelude.{Bool, true, false, List, ◌++◌, ◌≡◌, ℕ, ◌+◌, ◌-◌, ◌≤◌, ◌<◌, ℤ, nat_abs, length, get_or, take}
+use Rattle.std.specs.Prelude.{Result, Ok, Err, List, ◌++◌, ◌≡◌, ℕ, ◌+◌, ◌-◌, ◌≤◌, ◌<◌, ℤ, nat_abs, length, get_or, take}
+use Rattle.refusal.specs.declared.Refusal.{Refusal}
 use Rattle.grid.specs.Check.{Passes}
 use Rattle.grid.specs.Limits.{coordinate_most}
 use Rattle.insertion.specs.Insertion.{point_at}
@@ -60,9 +61,9 @@ pub record Fixed (m n : ℕ) (ks : List ℕ) (xs ys : List ℤ) (ks_after : List
   pub same_ys : ys_after ≡ ys
 
 -- one try
-pub record TryOutcome (m n : ℕ) (ks : List ℕ) (xs ys : List ℤ) (ks_after : List ℕ) (xs_after ys_after : List ℤ) (r : Bool) : Type 0 where
-  pub removed : r ≡ true → Shorter m n ks xs ys ks_after xs_after ys_after
-  pub kept : r ≡ false → Fixed m n ks xs ys ks_after xs_after ys_after
+abbrev pub TryOutcome : ℕ → ℕ → List ℕ → List ℤ → List ℤ → List ℕ → List ℤ → List ℤ → Result (Unit {0}) Refusal → Type 0
+TryOutcome m n ks xs ys ks_after xs_after ys_after (Ok removed) = Shorter m n ks xs ys ks_after xs_after ys_after
+TryOutcome m n ks xs ys ks_after xs_after ys_after (Err refusal) = Fixed m n ks xs ys ks_after xs_after ys_after
 
 -- the newest value v is dealt with: removed while removal is accepted, in every curve that the front begins
 pub record ValueRemoved (m n : ℕ) (ks : List ℕ) (xs ys : List ℤ) (ks_after : List ℕ) (xs_after ys_after : List ℤ) (left : ℕ) : Type 0 where
