@@ -36,3 +36,15 @@ unfolding third_whole
 third-judged h d z fits e = rw (to_z-of_z w64 z fits) (remainder-none z 3 (omega arith) (omega arith)) ∙ ap (divides (pos 3)) e
 
 pub ruleset third_tested = (third-judged)
+
+-- code that moves a coordinate by a third reads where it is moved to
+module _ (p w z : ℤ) (point : SFits w32 p) (wide : SFits w64 w) (reach : SFits w64 z) (same : w ≡ p) where
+  pub moved-on : to_z w64 (of_z w64 (to_z w64 (of_z w64 w) +ℤ to_z w64 (of_z w64 (quot_z (to_z w64 (of_z w64 z)) (pos 3))))) ≡ p +ℤ quot_z z (pos 3)
+  moved-on =
+      rw (to_z-of_z w64 w wide, to_z-of_z w64 z reach, same, to_z-of_z w64 (quot_z z (pos 3)) (third-fits z reach))
+      (to_z-of_z w64 (p +ℤ quot_z z (pos 3)) (moved-fits z reach p point).0)
+
+  pub moved-back : to_z w64 (of_z w64 (to_z w64 (of_z w64 w) -ℤ to_z w64 (of_z w64 (quot_z (to_z w64 (of_z w64 z)) (pos 3))))) ≡ p -ℤ quot_z z (pos 3)
+  moved-back =
+      rw (to_z-of_z w64 w wide, to_z-of_z w64 z reach, same, to_z-of_z w64 (quot_z z (pos 3)) (third-fits z reach))
+      (to_z-of_z w64 (p -ℤ quot_z z (pos 3)) (moved-fits z reach p point).1)
