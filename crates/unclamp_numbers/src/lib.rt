@@ -8,6 +8,15 @@ ghost use Rattle.clamping.specs.EndRows.{finish_of};
 ghost use Rattle.unclamping.specs.Unclamping.{open_number};
 ghost use Rattle.unclamp_numbers.specs.Standing.{Ending};
 
+// One axis of a curve that has passed the check and whose right end is clamped.
+#[derive(Clone, Copy)]
+pub struct RightEnd<'a> {
+    pub degree: usize,
+    pub knots: &'a [u16],
+    pub points: &'a [i32],
+    pub ghost ending: { Ending degree knots.now points.now },
+}
+
 // The width of span i.
 pub fn span_width(knots: &[u16], i: usize) -> u16
     requires never_fall { NeverFall knots.now }
@@ -40,26 +49,27 @@ fn first_above(two: u16, p: i32, q: i32, second: i64) -> i64
     requires { nat_abs second ≤ 2 ^ 48 }
     ensures answer { result ≡ pos two *ℤ (pos 6 *ℤ p -ℤ pos 3 *ℤ q) -ℤ pos 2 *ℤ second }
 {
-    (two as i64) * (signed::product(6, p) - signed::product(3, q)) - 2 * second
+    i64::from(two) * (signed::product(6, p) - signed::product(3, q)) - 2 * second
 }
 
 // The last point afterwards, of degree 2.
 fn twice_less(p: i32, q: i32) -> i64
     ensures answer { result ≡ pos 2 *ℤ p -ℤ q }
 {
-    signed::product(2, p) - signed::wide(q)
+    signed::product(2, p) - i64::from(q)
 }
 
 // Above the line of the last two points, of degree 3.
-fn above_of_three(knots: &[u16], ps: &[i32], k: usize) -> i64
-    requires ending { Ending 3 knots.now ps.now }
+fn above_of_three(end: RightEnd<'_>, k: usize) -> i64
+    requires degree { end.degree ≡ 3 }
     requires k_bound { k + 1 < 3 }
-    ensures answer { result ≡ (open_number (finish_of knots.now ps.now) 3 k).upper }
+    ensures answer { result ≡ (open_number (finish_of end.entry.knots.now end.entry.points.now) 3 k).upper }
 {
+    let ps = end.points;
     let count = ps.len();
-    let two = two_spans(knots, count);
+    let two = two_spans(end.knots, count);
     let p = ps[count - 2];
-    let second = second_above(two, span_width(knots, count - 1), p, ps[count - 3]);
+    let second = second_above(two, span_width(end.knots, count - 1), p, ps[count - 3]);
     if k == 1 {
         return second;
     }
@@ -67,26 +77,25 @@ fn above_of_three(knots: &[u16], ps: &[i32], k: usize) -> i64
 }
 
 // Above the line of the k-th point from the end.
-pub fn above(m: usize, knots: &[u16], ps: &[i32], k: usize) -> i64
-    requires ending { Ending m knots.now ps.now }
-    requires k_bound { k + 1 < m }
-    ensures answer { result ≡ (open_number (finish_of knots.now ps.now) m k).upper }
+pub fn above(end: RightEnd<'_>, k: usize) -> i64
+    requires { k + 1 < end.degree }
+    ensures answer { result ≡ (open_number (finish_of end.entry.knots.now end.entry.points.now) end.entry.degree k).upper }
 {
-    if m == 2 {
+    if end.degree == 2 {
+        let ps = end.points;
         return twice_less(ps[ps.len() - 1], ps[ps.len() - 2]);
     }
-    above_of_three(knots, ps, k)
+    above_of_three(end, k)
 }
 
 // Below it.
-pub fn below(m: usize, knots: &[u16], ps: &[i32], k: usize) -> u16
-    requires ending { Ending m knots.now ps.now }
-    requires k_bound { k + 1 < m }
-    ensures answer { result ≡ (open_number (finish_of knots.now ps.now) m k).lower }
+pub fn below(end: RightEnd<'_>, k: usize) -> u16
+    requires { k + 1 < end.degree }
+    ensures answer { result ≡ (open_number (finish_of end.entry.knots.now end.entry.points.now) end.entry.degree k).lower }
     ensures some { 0 < result }
 {
-    if m == 2 {
+    if end.degree == 2 {
         return 1;
     }
-    two_spans(knots, ps.len())
+    two_spans(end.knots, end.points.len())
 }

@@ -1,14 +1,17 @@
 -- What the check and row 23 say to the parts of unclamping.
 use mathlib.Core.Bool.{true}
 use mathlib.Core.Path.{◌≡◌}
-use Prim.Native.Nat.{ℕ, ◌+◌, ◌≤◌, ◌<◌}
+use Prim.Native.Nat.{ℕ, ◌+◌}
 use native.Mathlib.Omega.{arith}
 use lib.ListN.{length, get_or}
 use Rattle.refusal.proofs.JudgingLaws.{both}
-use Rattle.curve.specs.Lists.{Lists, NeverFall}
+use Rattle.curve.specs.Lists.{Lists}
 use Rattle.grid.specs.Rows.{all_on_grid, range_ok}
 use Rattle.grid.specs.Check.{Passes}
 use Rattle.grid.proofs.CheckLaws.{passes-tests}
+use Rattle.checked.specs.Along.{along}
+use Rattle.checked.specs.declared.Axis.{Axis}
+use Rattle.checked.specs.declared.Axis.TheVariants.{X, Y}
 use Rattle.checked.proofs.CheckedLaws.{checked-of-passes}
 use Rattle.unclamping.proofs.WidthLaws.{last-span}
 use Rattle.unclamping.proofs.JudgedLaws.{Opens}
@@ -16,13 +19,6 @@ use Rattle.unclamp_numbers.specs.Standing.{Ending}
 use Rattle.unclamp_parts.specs.Standing.{KnotsEnding}
 
 module _ (m : ℕ) (c : Lists) (passes : Passes m c.knots c.xs c.ys) where
-  -- the knots, whatever row 23 says
-  pub knots-stand : ((1 ≤ m) × (m ≤ 3)) × (NeverFall c.knots × ((1 ≤ length c.xs) × (length c.xs + m < length c.knots)))
-  knots-stand =
-      let k = checked-of-passes m c.knots c.xs c.ys passes in
-      let s = k.sizes in
-      ((s.degree-least, s.degree-most), (k.rising, (omega (arith, s.enough), omega (arith, s.knots))))
-
   -- the coordinates
   pub grid-stands : (all_on_grid c.xs ≡ true) × (all_on_grid c.ys ≡ true)
   unfolding range_ok
@@ -30,7 +26,7 @@ module _ (m : ℕ) (c : Lists) (passes : Passes m c.knots c.xs c.ys) where
 
   -- both axes, where the end is clamped
   module _ (end : get_or c.knots (length c.xs + m) 0 ≡ get_or c.knots (length c.xs) 0) where
-    pub ending-xs : Ending m c.knots c.xs
+    ending-xs : Ending m c.knots c.xs
     ending-xs =
         let k = checked-of-passes m c.knots c.xs c.ys passes in
         let s = k.sizes in
@@ -44,7 +40,7 @@ module _ (m : ℕ) (c : Lists) (passes : Passes m c.knots c.xs c.ys) where
           last = last-span m c.knots c.xs c.ys passes end;
         }
 
-    pub ending-ys : Ending m c.knots c.ys
+    ending-ys : Ending m c.knots c.ys
     ending-ys =
         let k = checked-of-passes m c.knots c.xs c.ys passes in
         let s = k.sizes in
@@ -58,6 +54,10 @@ module _ (m : ℕ) (c : Lists) (passes : Passes m c.knots c.xs c.ys) where
           largest = k.largest;
           last = rw same (last-span m c.knots c.xs c.ys passes end);
         }
+
+    pub ending-along : (axis : Axis) → Ending m c.knots (along axis c.xs c.ys)
+    ending-along X = ending-xs
+    ending-along Y = ending-ys
 
   -- the knots, where the new ones fit
   pub knots-ending : Opens m c → KnotsEnding m c.knots (length c.xs)

@@ -1,36 +1,26 @@
 // Unclamping a curve that has passed the check.
 ghost use Rattle.curve.specs.Lists.{lists};
-ghost use Rattle.grid.specs.Check.{Passes};
+ghost use Rattle.checked.specs.Along.{lists_of};
 ghost use Rattle.unclamp_right.specs.Answer.{UnclampOutcome};
 
+use crate::judging::{can_open, right_end};
+use checked::{Axis, Curve};
+use curve::Lent;
+use refusal::Refusal;
+use unclamp_parts::{write_knots, write_points};
+
 // Unclamps the right end, or answers 23 or 15 and leaves the lent lists as they were found.
-pub(crate) fn unclamp_checked(
-    m: usize,
-    knots: &[u16],
-    xs: &[i32],
-    ys: &[i32],
-    out_knots: &mut [u16],
-    out_xs: &mut [i32],
-    out_ys: &mut [i32],
-) -> crate::UnclampAnswer
-    requires { Passes m knots.now xs.now ys.now }
-    ensures answer { UnclampOutcome m (lists knots.now xs.now ys.now)
-        (lists out_knots.old out_xs.old out_ys.old) result
-        (lists out_knots.new out_xs.new out_ys.new) }
+pub(crate) fn unclamp_checked(curve: Curve<'_>, into: Lent<'_>) -> Result<usize, Refusal>
+    ensures answer { UnclampOutcome curve.entry.degree (lists_of curve.entry)
+        (lists into.entry.knots.now into.entry.xs.now into.entry.ys.now) result
+        (lists into.exit.0.now into.exit.1.0.now into.exit.1.1.0.now) }
 {
-    if !crate::judging::can_open(m, knots, xs, ys) {
-        return crate::UnclampAnswer::Refused(refusal::UNCLAMP);
+    if !can_open(curve) {
+        return Err(Refusal::Unclamp);
     }
-    if !curve::room_for(
-        knots.len(),
-        xs.len(),
-        ys.len(),
-        out_knots.len(),
-        out_xs.len(),
-        out_ys.len(),
-    ) {
-        return crate::UnclampAnswer::Refused(refusal::ROOM);
-    }
-    crate::writing::write(m, knots, xs, ys, out_knots, out_xs, out_ys);
-    crate::UnclampAnswer::Unclamped(xs.len())
+    into.room(curve.knots.len(), curve.xs.len(), curve.ys.len())?;
+    write_knots(curve, into.knots);
+    write_points(right_end(curve, Axis::X), into.xs);
+    write_points(right_end(curve, Axis::Y), into.ys);
+    Ok(curve.xs.len())
 }

@@ -6,11 +6,11 @@ use Rattle.unclamping.proofs.EntryLaws.{lower-of-two, lower-of-three}
 use Rattle.unclamp_numbers.proofs.EndLaws.{two-spans-some}
 use Rattle.unclamp_numbers.proofs.below.Goals as goal
 
-pub returns-then-m-eq2 : goal.returns-then-m-eq2
-returns-then-m-eq2 c =
-    let a = c.args in record { answer = sym (lower-of-two (finish_of a.knots.now a.ps.now) a.m a.k c.requires.k_bound c.if-m-eq2.true); some = omega arith }
+pub returns-then-end-eq2 : goal.returns-then-end-eq2
+returns-then-end-eq2 c =
+    let a = c.args in record { answer = sym (lower-of-two (finish_of a.end.knots.now a.end.points.now) a.end.degree a.k c.requires c.if-end-eq2.true); some = omega arith }
 
 pub returns : goal.returns
 returns c =
     let a = c.args in
-    let three : a.m ≡ 3 = omega (arith, c.if-m-eq2.false, c.requires.ending.most, c.requires.k_bound) in record { answer = c.two_spans.ensures.answer ∙ sym (lower-of-three (finish_of a.knots.now a.ps.now) a.m a.k c.requires.k_bound three); some = omega (arith, c.two_spans.ensures.answer, two-spans-some a.m a.knots.now a.ps.now c.requires.ending (omega (arith, three))) }
+    let three : a.end.degree ≡ 3 = omega (arith, c.if-end-eq2.false, a.end.ending.most, c.requires) in record { answer = c.two_spans.ensures.answer ∙ sym (lower-of-three (finish_of a.end.knots.now a.end.points.now) a.end.degree a.k c.requires three); some = omega (arith, c.two_spans.ensures.answer, two-spans-some a.end.degree a.end.knots.now a.end.points.now a.end.ending (omega (arith, three))) }

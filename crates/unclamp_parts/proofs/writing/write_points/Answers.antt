@@ -15,12 +15,12 @@ use Rattle.unclamp_parts.proofs.writing.write_points.Goals as goal
 
 pub loop-j-init : goal.loop-j-init
 loop-j-init c = let a = c.args in
-    let first = c.copy_into in (omega arith, omega (arith, c.requires.ending.least), stored-anew (points-stored a.m a.knots.now a.ps.now c.requires.ending a.out.now first.new.to c.requires.ps_in_bounds first.ensures.result))
+    let first = c.copy_into in (omega arith, omega (arith, a.end.ending.least), stored-anew (points-stored a.end.degree a.end.knots.now a.end.points.now a.end.ending a.out.now first.new.to c.requires.ps_in_bounds first.ensures.result))
 
 pub new_point-requires : goal.new_point-requires
 new_point-requires c =
     let a = c.args in
-    let l = c.loop-j in let k = length a.ps.now - 1 - l.j in record { ending = c.requires.ending; k_bound = omega (arith, l.invariant.0, c.loop-j-test.true, c.requires.ending.enough); k_value = point-fits a.m a.knots.now a.ps.now c.requires.ending c.requires.ps_value k (omega (arith, c.loop-j-test.true)) }
+    let l = c.loop-j in let k = length a.end.points.now - 1 - l.j in record { k_bound = omega (arith, l.invariant.0, c.loop-j-test.true, a.end.ending.enough); k_value = point-fits a.end.degree a.end.knots.now a.end.points.now a.end.ending c.requires.ps_value k (omega (arith, c.loop-j-test.true)) }
 
 pub loop-j-preserved : goal.loop-j-preserved
 loop-j-preserved c = let a = c.args in
@@ -28,14 +28,14 @@ loop-j-preserved c = let a = c.args in
       omega (arith, l.invariant.0),
       omega arith,
       rw (to_z-of_z w32 c.new_point.result (sfits_of c.new_point.type_inv))
-          (stored_more l.invariant.2 c.new_point.result (pos 0) (rw (open_points-length a.m a.knots.now a.ps.now) taken)
-          (open_points-at a.m a.knots.now a.ps.now l.j taken ∙ sym c.new_point.ensures.answer)),
+          (stored_more l.invariant.2 c.new_point.result (pos 0) (rw (open_points-length a.end.degree a.end.knots.now a.end.points.now) taken)
+          (open_points-at a.end.degree a.end.knots.now a.end.points.now l.j taken ∙ sym c.new_point.ensures.answer)),
     )
 
 pub returns : goal.returns
 returns c = record {
   result = let a = c.args in
       let l = c.loop-j in let first = c.copy_into in stored-all
-      (stored-since (points-stored a.m a.knots.now a.ps.now c.requires.ending a.out.now first.new.to c.requires.ps_in_bounds first.ensures.result) l.invariant.0 l.invariant.2)
-      (omega (arith, c.loop-j-test.false, open_points-length a.m a.knots.now a.ps.now));
+      (stored-since (points-stored a.end.degree a.end.knots.now a.end.points.now a.end.ending a.out.now first.new.to c.requires.ps_in_bounds first.ensures.result) l.invariant.0 l.invariant.2)
+      (omega (arith, c.loop-j-test.false, open_points-length a.end.degree a.end.knots.now a.end.points.now));
 }

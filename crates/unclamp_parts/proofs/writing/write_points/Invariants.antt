@@ -6,7 +6,4 @@ use Rattle.unclamping.specs.Unclamping.{open_points}
 use Rattle.unclamp_parts.proofs.writing.write_points.Given as goal
 
 abbrev pub invariant-loop-j : goal.invariant-loop-j
-invariant-loop-j l = (length l.ps + 1 - l.m ≤ l.j) × (l.j ≤ length l.ps) × Stored (open_points l.m l.knots l.ps) l.initial.out l.out l.j
-
-abbrev pub decreases-loop-j : goal.decreases-loop-j
-decreases-loop-j l = length l.ps - l.j
+invariant-loop-j l = (length l.end.points.now + 1 - l.end.degree ≤ l.j) × (l.j ≤ length l.end.points.now) × Stored (open_points l.end.degree l.end.knots.now l.end.points.now) l.initial.out l.out l.j
