@@ -1,4 +1,5 @@
 -- A burst's answer and its work list say what their sentences say.
+use Rattle.std.specs.Prelude.{Result, Ok}
 use mathlib.Core.List.{[]}
 use mathlib.Core.Path.{refl, sym, ap, ◌∙◌}
 use Prim.Native.Nat.{ℕ}
@@ -9,8 +10,8 @@ use Rattle.grid.specs.Limits.{job_most}
 use Rattle.keeping.specs.Kept.{received_with}
 use Rattle.keeping.proofs.SentenceLaws.{burst-kept, none-counted, none_kept}
 use Rattle.feed.specs.Burst.{work_number}
-use Rattle.feed.specs.declared.BurstAnswer.{BurstAnswer}
-use Rattle.feed.specs.declared.BurstAnswer.TheVariants.{Fed}
+use Rattle.refusal.specs.declared.Refusal.{Refusal}
+use Rattle.feed.specs.declared.Feed.{Feed}
 use Rattle.feed.specs.Sentences.{BurstAnswersFirst, BurstIsKept, ShortListKept, EmptyBurstChangesNothing}
 use Rattle.feed.proofs.BurstLaws.{burst-refused, burst-taken}
 
@@ -25,8 +26,8 @@ burst-is-kept state burst work long =
 pub short-list-kept : ShortListKept
 short-list-kept state burst work less = let refused = burst-refused state burst work less in (sym refused.0, sym refused.1)
 
-abbrev fed : ℕ → BurstAnswer
-fed n = Fed (record { received = n })
+abbrev fed : ℕ → Result Feed Refusal
+fed n = Ok (record { received = n })
 
 pub empty-burst-changes-nothing : EmptyBurstChangesNothing
 empty-burst-changes-nothing state work long =

@@ -7,38 +7,33 @@ ghost use Rattle.curve.specs.Lists.{lists};
 ghost use Rattle.feed.specs.Burst.{burst_answer, work_after};
 ghost use Rattle.feed.specs.Ending.{ReadsHeld, FeedEnds};
 
-use job::{JobAnswer, Judged};
+use job::Job;
+use refusal::Refusal;
+use taken_field::{Break, Failure};
 
 // What is kept between the calls beside the work list: how many bytes were received, 0 before the first burst.
-#[derive(Clone, Copy)]
+#[derive(Clone, Copy, PartialEq, Eq, Debug)]
 pub struct Feed {
     pub received: usize,
 }
 
-// The state after a burst; or the number of refusal, and then the state is what it was.
-#[derive(Clone, Copy)]
-pub enum BurstAnswer {
-    Fed(Feed),
-    Refused(u32),
-}
-
-// What reading the job answers, and the state for whatever comes next.
-#[derive(Clone, Copy)]
+// What reading the job answers, and the state for whatever comes next. No Result: there is a state both ways.
+#[derive(Clone, Copy, PartialEq, Eq, Debug)]
 pub struct EndAnswer {
-    pub answer: JobAnswer,
+    pub answer: Result<Job, Failure>,
     pub state: Feed,
 }
 
-// Takes a burst in. Nothing is judged yet.
-pub fn feed_burst(state: Feed, burst: &[u8], work: &mut [u8]) -> BurstAnswer
+// Takes a burst in, and answers the state after it. Nothing is judged yet.
+pub fn feed_burst(state: Feed, burst: &[u8], work: &mut [u8]) -> Result<Feed, Refusal>
     ensures answer { result ≡ burst_answer state burst.now work.old }
     ensures result { work.new ≡ work_after state burst.now work.old }
 {
     if work.len() < grid::JOB_MOST {
-        return BurstAnswer::Refused(refusal::ROOM);
+        return Err(Refusal::Room);
     }
     let received = keeping::keep(state.received, burst, work);
-    BurstAnswer::Fed(Feed { received })
+    Ok(Feed { received })
 }
 
 // Told the end: reads all that was received.
@@ -55,7 +50,7 @@ pub fn feed_end(
 {
     if work.len() < grid::JOB_MOST {
         return EndAnswer {
-            answer: JobAnswer::Refused(refusal::ROOM),
+            answer: Err(Failure::Refused(Refusal::Room)),
             state,
         };
     }
@@ -74,7 +69,7 @@ fn read_received(
     out_xs: &mut [i32],
     out_ys: &mut [i32],
     clamps: &mut [i32],
-) -> JobAnswer
+) -> Result<Job, Failure>
     requires { job_most ≤ length work.now }
     ensures answer { ReadsHeld received work.now (lists out_knots.old out_xs.old out_ys.old)
         clamps.old result (lists out_knots.new out_xs.new out_ys.new) clamps.new }
@@ -82,14 +77,9 @@ fn read_received(
     if received <= work.len() {
         return job::read_job(&work[..received], out_knots, out_xs, out_ys, clamps);
     }
-    match job::judge_job(work) {
-        Judged::Broken(found) => JobAnswer::Broken {
-            number: found.number,
-            place: found.place,
-        },
-        Judged::Sound => JobAnswer::Broken {
-            number: refusal::LEFT_OVER,
-            place: grid::JOB_MOST,
-        },
-    }
+    job::judge_job(work)?;
+    Err(Failure::Broken(Break {
+        refusal: Refusal::LeftOver,
+        place: grid::JOB_MOST,
+    }))
 }

@@ -1,20 +1,12 @@
 -- The bytes received are read where they fit; else the list is judged.
-use mathlib.Core.Path.{subst}
-use Rattle.curve.specs.Lists.{lists}
-use Rattle.job.specs.JobReading.{JobJudged}
-use Rattle.feed.proofs.EndLaws.{held-broken, held-left-over}
+use Rattle.std.proofs.Common.{rules}
+use Rattle.feed.proofs.EndLaws.{held_broken, held_left_over}
 use Rattle.feed.proofs.read_received.Goals as goal
 
-pub returns-in-Broken : goal.returns-in-Broken
-returns-in-Broken c = record {
-  answer = let a = c.args in
-      held-broken a.received a.work.now (lists a.out_knots.now a.out_xs.now a.out_ys.now) a.clamps.now
-      c.if-received-work.false c.requires _ (subst (JobJudged a.work.now) c.in-Broken.is c.judge_job.ensures.answer);
+pub returns-in_err-judge_job : goal.returns-in_err-judge_job
+returns-in_err-judge_job c = record {
+  answer = held_broken _ _ _ _ c.if-received-work.false c.requires c.in_err-judge_job.field-0.0 c.in_err-judge_job.ensures.answer _ (search rules);
 }
 
-pub returns-in-Sound : goal.returns-in-Sound
-returns-in-Sound c = record {
-  answer = let a = c.args in
-      held-left-over a.received a.work.now (lists a.out_knots.now a.out_xs.now a.out_ys.now) a.clamps.now
-      c.if-received-work.false c.requires (subst (JobJudged a.work.now) c.in-Sound.is c.judge_job.ensures.answer);
-}
+pub returns : goal.returns
+returns c = record { answer = held_left_over _ _ _ _ c.if-received-work.false c.requires c.in_ok-judge_job.ensures.answer }
