@@ -8,6 +8,7 @@ ghost use Rattle.fields.specs.Places.{put_at};
 ghost use Rattle.clamps.specs.Clamp.{clamp_sides, clamp_field_bytes, clamp_at, clamps_at, clamps_ok, sides, all_sides};
 ghost use Rattle.clamps.specs.Tail.{clamps_behind};
 
+use fields::Entry;
 use refusal::Refusal;
 use taken_field::{Break, Rule};
 
@@ -61,10 +62,10 @@ fn clamp_ok(bytes: &[u8], at: usize) -> bool
     let on_low_y = on_high_x + SIDE_BYTES;
     let on_high_y = on_low_y + SIDE_BYTES;
     grid::sides_ok(
-        fields::get_i32(bytes, on_low_x),
-        fields::get_i32(bytes, on_high_x),
-        fields::get_i32(bytes, on_low_y),
-        fields::get_i32(bytes, on_high_y),
+        i32::get(bytes, on_low_x),
+        i32::get(bytes, on_high_x),
+        i32::get(bytes, on_low_y),
+        i32::get(bytes, on_high_y),
     )
 }
 
@@ -86,7 +87,7 @@ fn put_sides(bytes: &[u8], at: usize, out: &mut [i32], to: usize)
     requires { (at + clamp_field_bytes ≤ length bytes.now) × (to + clamp_sides ≤ length out.old) }
     ensures result { out.new ≡ put_at out.old to (sides (clamp_at bytes.now at)) }
 {
-    fields::read_coordinates(bytes, at + grid::HEAD_BYTES, CLAMP_SIDES, &mut out[to..]);
+    fields::read_entries(bytes, at + grid::HEAD_BYTES, CLAMP_SIDES, &mut out[to..]);
 }
 
 // Reads every clamp's sides into the front of `out`.

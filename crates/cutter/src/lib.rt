@@ -6,6 +6,7 @@ ghost use Rattle.taken_field.specs.Taking.{field_at};
 ghost use Rattle.cutter.specs.Radius.{radius_field_bytes};
 ghost use Rattle.cutter.specs.Standing.{radius_rule, radius_at};
 
+use fields::Entry;
 use taken_field::{Break, Rule};
 
 // The tag of the field, and the bytes of the whole of it.
@@ -33,5 +34,5 @@ pub fn radius_in(bytes: &[u8], at: usize) -> u32
     requires { at + radius_field_bytes ≤ length bytes.now }
     ensures answer { result ≡ radius_at bytes.now at }
 {
-    u32::from(fields::get_u16(bytes, at + grid::HEAD_BYTES))
+    u32::from(u16::get(bytes, at + grid::HEAD_BYTES))
 }

@@ -1,5 +1,4 @@
 -- Laws of numbers, lists and fields in bytes.
-pub mod TwosLaws
 pub mod PlaceLaws
 pub mod LoopLaws
 mod Controls

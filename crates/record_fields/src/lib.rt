@@ -2,14 +2,15 @@
 #![tactic(auto)]
 
 ghost use Rattle.std.specs.Prelude.{◌≡◌, [], ◌∷◌, ◌+◌, ◌*◌, ◌≤◌, ◌<◌, length};
-ghost use Rattle.fields.specs.Bytes.{field_bytes, knot_bytes, coordinate_bytes};
+ghost use Rattle.fields.specs.Bytes.{each, field_bytes};
 ghost use Rattle.fields.specs.Places.{put_at};
 ghost use Rattle.grid.specs.Limits.{head_bytes};
 ghost use Rattle.checked.specs.Along.{lists_of};
-ghost use Rattle.format.specs.Format.{degree_tag, knots_tag, form1, record_bytes};
+ghost use Rattle.format.specs.Format.{degree_tag, form1, record_bytes};
 ghost use Rattle.format.specs.RecordPlaces.{knots_field, record_end};
 
 use checked::Curve;
+use fields::Entry;
 
 // The degree's field.
 fn put_degree(degree: usize, out: &mut [u8])
@@ -20,22 +21,13 @@ fn put_degree(degree: usize, out: &mut [u8])
     out[format::DEGREE_PLACE] = degree as u8;
 }
 
-// The knots' field, from `at` on.
-fn put_knots_field(knots: &[u16], out: &mut [u8], at: usize)
-    requires { at + head_bytes + 2 * length knots.now ≤ length out.old }
-    ensures result { out.new ≡ put_at out.old at (field_bytes knots_tag (knot_bytes knots.now)) }
+// A field of entries, from `at` on.
+fn put_list_field<E: Entry>(tag: u8, entries: &[E], out: &mut [u8], at: usize)
+    requires { at + head_bytes + E.WIDTH * length entries.now ≤ length out.old }
+    ensures result { out.new ≡ put_at out.old at (field_bytes tag (each E.parts entries.now)) }
 {
-    fields::put_head(out, at, format::KNOTS_TAG, 2 * knots.len());
-    fields::put_knots(knots, out, at + grid::HEAD_BYTES);
-}
-
-// A field of coordinates, from `at` on.
-fn put_coordinates_field(tag: u8, zs: &[i32], out: &mut [u8], at: usize)
-    requires { at + head_bytes + 4 * length zs.now ≤ length out.old }
-    ensures result { out.new ≡ put_at out.old at (field_bytes tag (coordinate_bytes zs.now)) }
-{
-    fields::put_head(out, at, tag, 4 * zs.len());
-    fields::put_coordinates(zs, out, at + grid::HEAD_BYTES);
+    fields::put_head(out, at, tag, E::WIDTH * entries.len());
+    fields::put_entries(entries, out, at + grid::HEAD_BYTES);
 }
 
 // The whole record of a curve, at the front.
@@ -46,7 +38,7 @@ pub fn put_record(curve: Curve<'_>, out: &mut [u8])
     let on_x = format::BEFORE_KNOTS + 2 * curve.knots.len();
     let on_y = on_x + grid::HEAD_BYTES + 4 * curve.xs.len();
     put_degree(curve.degree, out);
-    put_knots_field(curve.knots, out, format::KNOTS_FIELD);
-    put_coordinates_field(format::X_TAG, curve.xs, out, on_x);
-    put_coordinates_field(format::Y_TAG, curve.ys, out, on_y);
+    put_list_field(format::KNOTS_TAG, curve.knots, out, format::KNOTS_FIELD);
+    put_list_field(format::X_TAG, curve.xs, out, on_x);
+    put_list_field(format::Y_TAG, curve.ys, out, on_y);
 }

@@ -39,9 +39,9 @@ pub fn read_lists(
 {
     let on_x = format::BEFORE_X + layout.knots;
     let on_y = format::BEFORE_Y + layout.knots + layout.xs;
-    fields::read_knots(bytes, format::BEFORE_KNOTS, layout.knots / 2, out_knots);
-    fields::read_coordinates(bytes, on_x, layout.xs / 4, out_xs);
-    fields::read_coordinates(bytes, on_y, layout.ys / 4, out_ys);
+    fields::read_entries(bytes, format::BEFORE_KNOTS, layout.knots / 2, out_knots);
+    fields::read_entries(bytes, on_x, layout.xs / 4, out_xs);
+    fields::read_entries(bytes, on_y, layout.ys / 4, out_ys);
 }
 
 // The lists at the front of the lent ones; or nothing has changed, where one is too short.

@@ -5,6 +5,7 @@ ghost use Rattle.std.specs.Prelude.{◌≡◌, ◌≤◌, IfOk};
 ghost use Rattle.taken_field.specs.Taking.{length_ok, field_at};
 ghost use Rattle.taken_field.specs.declared.Failure.TheVariants.{Broken, Refused};
 
+use fields::Entry;
 use refusal::Refusal;
 
 // What a field must be: its tag, its least and largest length, and the width of an entry.
@@ -79,7 +80,7 @@ pub fn take_field(bytes: &[u8], at: usize, rule: Rule) -> Result<usize, Break>
     if len < at + grid::HEAD_BYTES {
         return ended;
     }
-    let size = usize::from(fields::get_u16(bytes, at + 1));
+    let size = usize::from(u16::get(bytes, at + 1));
     if !length_ok(rule, size) {
         return Err(Break {
             refusal: Refusal::Length,

@@ -6,5 +6,5 @@ use Rattle.clamps.proofs.put_sides.Goals as goal
 pub returns : goal.returns
 returns c = record {
   result = let a = c.args in
-      put_at-rest a.out.now c.read_coordinates.new.out a.to (sides (clamp_at a.bytes.now a.at)) c.read_coordinates.ensures.result;
+      put_at-rest a.out.now c.read_entries.new.out a.to (sides (clamp_at a.bytes.now a.at)) c.read_entries.ensures.result;
 }

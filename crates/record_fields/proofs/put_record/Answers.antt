@@ -19,7 +19,7 @@ returns c = record {
       let knots = length-knots a.curve.knots.now in
       let on_x = length-coordinates a.curve.xs.now in
       let on_y = length-coordinates a.curve.ys.now in
-      let fourth = c.put_coordinates_field-2 in let third = c.put_coordinates_field in let second = c.put_knots_field in let first = c.put_degree in put_four a.out.now first.new.out second.new.out third.new.out fourth.new.out
+      let fourth = c.put_list_field-3 in let third = c.put_list_field-2 in let second = c.put_list_field in let first = c.put_degree in put_four a.out.now first.new.out second.new.out third.new.out fourth.new.out
       (field_bytes degree_tag (a.curve.degree ∷ [])) (field_bytes knots_tag (knot_bytes a.curve.knots.now))
       (field_bytes x_tag (coordinate_bytes a.curve.xs.now)) (field_bytes y_tag (coordinate_bytes a.curve.ys.now))
       knots_field (x_field (2 * length a.curve.knots.now)) (x_field (2 * length a.curve.knots.now) + head_bytes + 4 * length a.curve.xs.now)

@@ -38,11 +38,11 @@ overflow_add-on_y c = omega (arith, fits (goal.at.overflow_add-on_y c).Start)
 pub overflow_add-on_y-2 : goal.overflow_add-on_y-2
 overflow_add-on_y-2 c = omega (arith, fits (goal.at.overflow_add-on_y-2 c).Start)
 
-pub read_knots-requires : goal.read_knots-requires
-read_knots-requires c = omega (arith, fits (goal.at.read_knots-requires c).Start)
+pub read_entries-requires : goal.read_entries-requires
+read_entries-requires c = omega (arith, fits (goal.at.read_entries-requires c).Start)
 
-pub read_coordinates-requires : goal.read_coordinates-requires
-read_coordinates-requires c = omega (arith, fits (goal.at.read_coordinates-requires c).Start)
+pub read_entries-requires-2 : goal.read_entries-requires-2
+read_entries-requires-2 c = omega (arith, fits (goal.at.read_entries-requires-2 c).Start)
 
-pub read_coordinates-requires-2 : goal.read_coordinates-requires-2
-read_coordinates-requires-2 c = omega (arith, fits (goal.at.read_coordinates-requires-2 c).Start)
+pub read_entries-requires-3 : goal.read_entries-requires-3
+read_entries-requires-3 c = omega (arith, fits (goal.at.read_entries-requires-3 c).Start)
