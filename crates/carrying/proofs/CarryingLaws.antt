@@ -7,7 +7,7 @@ use lib.IntN.{ℤ}
 use lib.ListN.{length}
 use Rattle.span.specs.Span.{span_of, carrying_of}
 use Rattle.domain.specs.Parameter.{parameter_number}
-use Rattle.carrying.specs.declared.Axis.{Axis}
+use Rattle.checked.specs.declared.Axis.{Axis}
 use Rattle.carrying.specs.Carrying.{on_axis, part_of}
 
 pub part-accepted :

@@ -11,8 +11,8 @@ use Rattle.span.specs.Sentences.{Carry}
 use Rattle.span.proofs.SentenceLaws.{carrying-entries}
 use Rattle.domain.specs.Parameter.{parameter_number}
 use Rattle.domain.proofs.ParameterLaws.{accepted-within}
-use Rattle.carrying.specs.declared.Axis.{Axis}
-use Rattle.carrying.specs.declared.Axis.TheVariants.{X, Y}
+use Rattle.checked.specs.declared.Axis.{Axis}
+use Rattle.checked.specs.declared.Axis.TheVariants.{X, Y}
 use Rattle.carrying.specs.Carrying.{on_axis, part_of}
 use Rattle.carrying.specs.Sentences.{PartOfAskedAxis, RefusalHandsNoPart}
 use Rattle.carrying.proofs.CarryingLaws.{part-accepted}

@@ -2,8 +2,8 @@
 use Rattle.std.specs.Prelude.{cond, List, [], ℕ, ◌-◌, eqb, ℤ, length}
 use Rattle.span.specs.Span.{span_of, carrying_of}
 use Rattle.domain.specs.Parameter.{parameter_number}
-use Rattle.carrying.specs.declared.Axis.{Axis}
-use Rattle.carrying.specs.declared.Axis.TheVariants.{X, Y}
+use Rattle.checked.specs.declared.Axis.{Axis}
+use Rattle.checked.specs.declared.Axis.TheVariants.{X, Y}
 
 abbrev pub on_axis : Axis → List ℤ → List ℤ → List ℤ  -- the list of the asked axis
 on_axis X xs ys = xs

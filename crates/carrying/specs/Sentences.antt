@@ -3,8 +3,8 @@ use Rattle.std.specs.Prelude.{List, [], ◌≡◌, ℕ, ◌-◌, ℤ, length}
 use Rattle.span.specs.Span.{span_of}
 use Rattle.span.specs.Sentences.{Carry}
 use Rattle.domain.specs.Parameter.{parameter_number}
-use Rattle.carrying.specs.declared.Axis.{Axis}
-use Rattle.carrying.specs.declared.Axis.TheVariants.{X, Y}
+use Rattle.checked.specs.declared.Axis.{Axis}
+use Rattle.checked.specs.declared.Axis.TheVariants.{X, Y}
 use Rattle.carrying.specs.Carrying.{part_of}
 
 -- where nothing is refused: asked for x, the m+1 coordinates x of the points P_{i-m} .. P_i, where i is the span of t; asked for y, their y
