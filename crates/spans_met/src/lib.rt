@@ -3,6 +3,7 @@
 
 ghost use Rattle.std.specs.Prelude.{◌≡◌};
 ghost use Rattle.curve.specs.Lists.{lists};
+ghost use Rattle.checked.specs.Along.{lists_of};
 ghost use Rattle.span_walk.specs.SpanLists.{span_lists};
 ghost use Rattle.spans_met.specs.Answer.{ListAnswer, listed};
 
@@ -29,6 +30,23 @@ pub fn list_spans_met(
         (span_lists lows.old highs.old) }
 {
     let curve = Curve::check(degree, knots, xs, ys)?;
+    list_checked(curve, clamp, radius, lows, highs)
+}
+
+// The same of a curve that has passed the check, which only 22, 14 and 15 refuse.
+pub fn list_checked(
+    curve: Curve<'_>,
+    clamp: Rectangle,
+    radius: u32,
+    lows: &mut [u16],
+    highs: &mut [u16],
+) -> Result<usize, Refusal>
+    ensures answer { ListAnswer curve.entry.degree (lists_of curve.entry) clamp radius
+        (span_lists lows.old highs.old) result }
+    ensures result { span_lists lows.new highs.new
+        ≡ listed curve.entry.degree (lists_of curve.entry) clamp radius
+        (span_lists lows.old highs.old) }
+{
     if !grid::radius_ok(radius) {
         return Err(Refusal::Radius);
     }
