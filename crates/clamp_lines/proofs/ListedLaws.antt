@@ -1,15 +1,15 @@
 -- What the list call's answer says of a clamp's lines, where its two lists have a place for each span that a curve can have.
-use mathlib.Core.Bool.{Bool, true, false, cond, ◌&&◌, false≢true}
+use mathlib.Core.Bool.{Bool, true, false, cond, ◌&&◌}
 use mathlib.Core.List.{List, []}
 use mathlib.Core.Path.{◌≡◌, refl, sym, ◌∙◌, ap}
 use Prim.Native.Nat.{ℕ, ◌≤◌}
 use native.Mathlib.Omega.{arith}
-use lib.Dec.{eqb}
 use lib.IntN.{ℤ}
 use lib.ListN.{length, take, drop, length-map, length-append}
-use borrow.Author.Tests.{eqb-true, eq-eqb}
-use Rattle.refusal.specs.Judging.{answered}
-use Rattle.refusal.specs.Numbers.{accepted}
+use Rattle.std.specs.Prelude.{Result, Ok, Err}
+use Rattle.refusal.specs.Answers.{Answers}
+use Rattle.refusal.specs.declared.Refusal.{Refusal}
+use Rattle.refusal.proofs.AnswerLaws.{refused-above_zero}
 use Rattle.lent.specs.Lent.{over, after}
 use Rattle.lent.proofs.OverLaws.{over-result}
 use Rattle.curve.specs.Lists.{lists}
@@ -19,21 +19,11 @@ use Rattle.grid.proofs.SizeLaws.{sizes-of-passes}
 use Rattle.boxes.specs.Widening.{widened}
 use Rattle.boxes.specs.declared.Rectangle.{Rectangle}
 use Rattle.span_walk.specs.SpansMet.{span_count, spans_met, low_knots, high_knots}
-use Rattle.spans_met.specs.declared.SpansAnswer.TheVariants.{Listed, Refused}
 use Rattle.spans_met.specs.Answer.{number_with_places}
-use Rattle.spans_met.proofs.AnswerLaws.{sides_ok, number-curve, number-radius, number-sides, number-none}
+use Rattle.spans_met.proofs.AnswerLaws.{sides_ok, number-radius, number-sides, number-none}
 use Rattle.clamp_lines.specs.Places.{spans_most}
-use Rattle.clamp_lines.specs.ClampPart.{where_checked, where_sound, clamp_lines}
+use Rattle.clamp_lines.specs.ClampPart.{where_sound, clamp_lines}
 use Rattle.clamp_lines.proofs.CountLaws.{span_count-most, met-most}
-
--- an answer that counts spans, and one that refuses
-by_count : (t : Bool) (n r count : ℕ) → cond t (Listed n) (Refused r) ≡ Listed count → (t ≡ true) × (count ≡ n)
-by_count true n r count e = (refl, cc)
-by_count false n r count e = absurd (let z : ◌≡◌ {A = ℕ} 0 1 = cc in omega arith)
-
-by-refusal : (t : Bool) (n r number : ℕ) → cond t (Listed n) (Refused r) ≡ Refused number → t ≡ false
-by-refusal true n r number e = absurd (let z : ◌≡◌ {A = ℕ} 0 1 = cc in omega arith)
-by-refusal false n r number e = refl
 
 module _ (m : ℕ) (ts : List ℕ) (xs ys : List ℤ) (clamp : Rectangle) (radius lows highs : ℕ) where
   abbrev number : ℕ
@@ -45,22 +35,12 @@ module _ (m : ℕ) (ts : List ℕ) (xs ys : List ℤ) (clamp : Rectangle) (radiu
   -- spans were counted: the curve passes the check, row 22 passes the radius and row 14 the clamp, and the count is that of the spans met
   pub record Counted (count : ℕ) : Type 0 where
     pub none : number ≡ 0
-    pub passes : check_number m ts xs ys ≡ 0
     pub short : radius_ok radius ≡ true
     pub sound : sides_ok clamp ≡ true
     pub counts : count ≡ length met
     pub few : count ≤ spans_most
 
-  -- the number is 0 only where curve, radius and clamp pass
-  curve-passes : number ≡ 0 → check_number m ts xs ys ≡ 0
-  curve-passes h = by (eqb (check_number m ts xs ys) 0) refl
-    where
-      by : (t : Bool) → eqb (check_number m ts xs ys) 0 ≡ t → check_number m ts xs ys ≡ 0
-      by true e = eqb-true (check_number m ts xs ys) 0 e
-      by false e =
-          let refused : check_number m ts xs ys ≡ 0 → ⊥ = λ z. false≢true (sym e ∙ eq-eqb (check_number m ts xs ys) 0 z) in
-          absurd (refused (sym (number-curve m ts xs ys clamp radius lows highs refused) ∙ h))
-
+  -- the number is 0 only where radius and clamp pass
   radius-passes : check_number m ts xs ys ≡ 0 → number ≡ 0 → radius_ok radius ≡ true
   radius-passes passes h = by (radius_ok radius) refl
     where
@@ -75,25 +55,23 @@ module _ (m : ℕ) (ts : List ℕ) (xs ys : List ℤ) (clamp : Rectangle) (radiu
       by true e = e
       by false e = absurd (omega (arith, number-sides m ts xs ys clamp radius lows highs passes short e, h))
 
-  pub counted : (count : ℕ) → Listed count ≡ answered Listed Refused number (length met) → Counted count
-  counted count e =
-      let a = by_count (eqb number accepted) (length met) number count (sym e) in
-      let none : number ≡ 0 = eqb-true number accepted a.0 in
-      let passes = curve-passes none in
+  pub counted : check_number m ts xs ys ≡ 0 → (count : ℕ) (answer : Result ℕ Refusal) → answer ≡ Ok count → Answers number (length met) answer → Counted count
+  counted passes count answer is says =
+      let said : Answers number (length met) (Ok count) = rw is at says in
+      let none : number ≡ 0 = sym said.0 in
       let short = radius-passes passes none in
       let size = sizes-of-passes m ts xs ys passes in
       record {
         none = none;
-        passes = passes;
         short = short;
         sound = clamp-passes passes short none;
-        counts = a.1;
-        few = omega (arith, a.1, met-most (widened radius clamp) m ts xs ys, size.most, size.degree-least);
+        counts = said.1;
+        few = omega (arith, said.1, met-most (widened radius clamp) m ts xs ys, size.most, size.degree-least);
       }
 
   -- what is then told of the clamp
-  pub counted-lines : (count k : ℕ) → Counted count → where_checked m (lists ts xs ys) (where_sound radius clamp (clamp_lines m (lists ts xs ys) radius k clamp)) ≡ clamp_lines m (lists ts xs ys) radius k clamp
-  counted-lines count k h = rw (h.passes, h.short, h.sound)
+  pub counted-lines : (count k : ℕ) → Counted count → where_sound radius clamp (clamp_lines m (lists ts xs ys) radius k clamp) ≡ clamp_lines m (lists ts xs ys) radius k clamp
+  counted-lines count k h = rw (h.short, h.sound)
 
   -- a list afterwards: as many knots as were counted stand at its front, and they are those of the spans met
   pub record Front (count : ℕ) (list result : List ℕ) : Type 0 where
@@ -118,18 +96,17 @@ module _ (m : ℕ) (ts : List ℕ) (xs ys : List ℤ) (clamp : Rectangle) (radiu
   highs-front count before list h e = front count (high_knots ts met) before list h (length-map met _) e
 
   -- the call refused, with places for all spans: nothing is told of the clamp
-  pub refused-lines : (r k : ℕ) → Refused r ≡ answered Listed Refused number (length met) → spans_most ≤ lows → spans_most ≤ highs
-      → where_checked m (lists ts xs ys) (where_sound radius clamp (clamp_lines m (lists ts xs ys) radius k clamp)) ≡ []
-  refused-lines r k e a b = by (eqb (check_number m ts xs ys) 0) (radius_ok radius) (sides_ok clamp) refl refl refl
+  pub refused-lines : check_number m ts xs ys ≡ 0 → (e : Refusal) (answer : Result ℕ Refusal) (k : ℕ) → answer ≡ Err e → Answers number (length met) answer → spans_most ≤ lows → spans_most ≤ highs
+      → where_sound radius clamp (clamp_lines m (lists ts xs ys) radius k clamp) ≡ []
+  refused-lines passes e answer k is says a b = by (radius_ok radius) (sides_ok clamp) refl refl
     where
-      by : (t v u : Bool) → eqb (check_number m ts xs ys) 0 ≡ t → radius_ok radius ≡ v → sides_ok clamp ≡ u
-          → cond t (cond (v && u) (clamp_lines m (lists ts xs ys) radius k clamp) []) [] ≡ []
-      by false v u p s q = refl
-      by true false u p s q = refl
-      by true true false p s q = refl
-      by true true true p s q =
-          let passes : check_number m ts xs ys ≡ 0 = eqb-true (check_number m ts xs ys) 0 p in
+      by : (v u : Bool) → radius_ok radius ≡ v → sides_ok clamp ≡ u → cond (v && u) (clamp_lines m (lists ts xs ys) radius k clamp) [] ≡ []
+      by false u s q = refl
+      by true false s q = refl
+      by true true s q =
           let size = sizes-of-passes m ts xs ys passes in
           let few : span_count m ts (length xs) ≤ spans_most = omega (arith, span_count-most m ts (length xs), size.most, size.degree-least) in
           let none : number ≡ 0 = number-none m ts xs ys clamp radius lows highs passes s q (omega (arith, few, a)) (omega (arith, few, b)) in
-          absurd (false≢true (sym (by-refusal (eqb number accepted) (length met) number r (sym e)) ∙ eq-eqb number accepted none))
+          let said : Answers number (length met) (Err e) = rw is at says in
+          let above = refused-above_zero e in
+          absurd (omega (arith, above, said.0, none))

@@ -1,16 +1,17 @@
-// All lines on a clamp, put at the front of a lent list: one for each span on which the cutter may meet it, or one that it is clear.
+// All lines on a clamp, written by a pen: one for each span on which the cutter may meet it, or one that it is clear.
 #![tactic(auto)]
 
 ghost use Rattle.std.specs.Prelude.{◌≡◌, ◌+◌, ◌*◌, ◌≤◌, length};
-ghost use Rattle.curve.specs.Lists.{lists};
+ghost use Rattle.checked.specs.Along.{lists_of};
 ghost use Rattle.grid.specs.Limits.{clamps_most};
 ghost use Rattle.lines.specs.Lines.{clamp_text};
 ghost use Rattle.digits.specs.Put.{Put};
 ghost use Rattle.clamp_lines.specs.Places.{spans_most, text_most};
-ghost use Rattle.clamp_lines.specs.ClampPart.{clamp_at, where_checked, where_sound, clamp_lines, clamp_part};
+ghost use Rattle.clamp_lines.specs.ClampPart.{clamp_at, standing, where_sound, clamp_lines, clamp_part};
 
 use boxes::Rectangle;
-use spans_met::SpansAnswer;
+use checked::Curve;
+use digits::Pen;
 
 // The most spans of a curve: at degree 1.
 const SPANS_MOST: usize = grid::POINTS_MOST - 1;
@@ -22,37 +23,36 @@ const CLAMP_LINE_MOST: usize = 31;
 pub const TEXT_MOST: usize = CLAMP_LINE_MOST * SPANS_MOST;
 
 // The lines, from the knots of the listed spans.
-fn put_listed(number: u32, lows: &[u16], highs: &[u16], text: &mut [u8]) -> usize
-    requires { (number ≤ clamps_most) × (length highs.now ≡ length lows.now) × (length lows.now ≤ spans_most) × (text_most ≤ length text.old) }
-    ensures result { Put text.old 0 (clamp_text number lows.now highs.now) text.new result }
+fn put_listed(pen: &mut Pen<'_>, number: u32, lows: &[u16], highs: &[u16])
+    requires { (number ≤ clamps_most) × (length highs.now ≡ length lows.now) × (length lows.now ≤ spans_most) × (pen.old.at + text_most ≤ length pen.old.out.now) }
+    ensures result { Put pen.old.out.now pen.old.at (clamp_text number lows.now highs.now) pen.new.out.now pen.new.at }
+    ensures name { pen.new.out.ghost_name ≡ pen.old.out.ghost_name }
 {
-    if lows.len() == 0 {
-        return lines::put_clear_line(text, 0, number);
+    if lows.is_empty() {
+        return lines::put_clear_line(pen, number);
     }
-    lines::put_meet_lines(text, 0, number, lows, highs)
+    lines::put_meet_lines(pen, number, lows, highs);
 }
 
-// The lines on a clamp with its number; the knots of its spans are listed in two work lists.
-fn put_met(
-    degree: u32,
-    knots: &[u16],
-    xs: &[i32],
-    ys: &[i32],
-    clamp: Rectangle,
-    radius: u32,
-    number: u32,
-    lows: &mut [u16],
-    highs: &mut [u16],
-    text: &mut [u8],
-) -> usize
-    requires { (number ≤ clamps_most) × (spans_most ≤ length lows.old) × (spans_most ≤ length highs.old) × (text_most ≤ length text.old) }
-    ensures result { Put text.old 0 (where_checked degree (lists knots.now xs.now ys.now)
-        (where_sound radius clamp (clamp_lines degree (lists knots.now xs.now ys.now) radius number clamp))) text.new result }
+// The lines on a clamp with its number.
+fn put_met(pen: &mut Pen<'_>, curve: Curve<'_>, radius: u32, number: u32, clamp: Rectangle)
+    requires { (number ≤ clamps_most) × (pen.old.at + text_most ≤ length pen.old.out.now) }
+    ensures result { Put pen.old.out.now pen.old.at
+        (where_sound radius clamp (clamp_lines curve.entry.degree (lists_of curve.entry) radius number clamp)) pen.new.out.now pen.new.at }
+    ensures name { pen.new.out.ghost_name ≡ pen.old.out.ghost_name }
 {
-    match spans_met::list_spans_met(degree, knots, xs, ys, clamp, radius, lows, highs) {
-        SpansAnswer::Listed(count) => put_listed(number, &lows[..count], &highs[..count], text),
-        SpansAnswer::Refused(_) => 0,
+    let mut lows = [0u16; SPANS_MOST];
+    let mut highs = [0u16; SPANS_MOST];
+    if let Ok(count) = spans_met::list_checked(curve, clamp, radius, &mut lows, &mut highs) {
+        put_listed(pen, number, &lows[..count], &highs[..count]);
     }
+}
+
+// Whether clamp k, counted from 0, is one of the first `count`, a job may have it, and the list has its sides.
+fn stands(count: usize, sides: &[i32], k: usize) -> bool
+    ensures answer { result ≡ standing count sides.now k }
+{
+    k < count && k < grid::CLAMPS_MOST && 4 * k + 4 <= sides.len()
 }
 
 // Clamp k, counted from 0, of a list with four sides a clamp.
@@ -69,44 +69,21 @@ fn clamp_at(sides: &[i32], k: usize) -> Rectangle
     }
 }
 
-// The lines on clamp k, counted from 0, of the first `count` of a curve that passes the check. A clamp's number is counted from 1.
+// The lines on clamp k, counted from 0, of the first `count`. A clamp's number is counted from 1.
 pub fn put_clamp(
-    degree: u32,
-    knots: &[u16],
-    xs: &[i32],
-    ys: &[i32],
+    pen: &mut Pen<'_>,
+    curve: Curve<'_>,
     radius: u32,
     count: usize,
     sides: &[i32],
     k: usize,
-    text: &mut [u8],
-) -> usize
-    requires { text_most ≤ length text.old }
-    ensures result { Put text.old 0 (where_checked degree (lists knots.now xs.now ys.now)
-        (clamp_part degree (lists knots.now xs.now ys.now) radius count sides.now k)) text.new result }
+)
+    requires { pen.old.at + text_most ≤ length pen.old.out.now }
+    ensures result { Put pen.old.out.now pen.old.at
+        (clamp_part curve.entry.degree (lists_of curve.entry) radius count sides.now k) pen.new.out.now pen.new.at }
+    ensures name { pen.new.out.ghost_name ≡ pen.old.out.ghost_name }
 {
-    if count <= k {
-        return 0;
+    if stands(count, sides, k) {
+        put_met(pen, curve, radius, (k + 1) as u32, clamp_at(sides, k));
     }
-    if grid::CLAMPS_MOST <= k {
-        return 0;
-    }
-    if sides.len() < 4 * k + 4 {
-        return 0;
-    }
-    let clamp = clamp_at(sides, k);
-    let mut lows = [0u16; SPANS_MOST];
-    let mut highs = [0u16; SPANS_MOST];
-    put_met(
-        degree,
-        knots,
-        xs,
-        ys,
-        clamp,
-        radius,
-        (k + 1) as u32,
-        &mut lows,
-        &mut highs,
-        text,
-    )
 }
