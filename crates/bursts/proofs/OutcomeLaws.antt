@@ -1,7 +1,9 @@
 -- The end has one outcome: some bytes are held, and reading them has one.
 use mathlib.Core.Path.{refl, ap}
 use native.Mathlib.Omega.{arith}
-use Rattle.job.specs.declared.JobAnswer.{JobAnswer}
+use Rattle.std.specs.Prelude.{Result}
+use Rattle.job.specs.declared.Job.{Job}
+use Rattle.taken_field.specs.declared.Failure.{Failure}
 use Rattle.round_trip.proofs.JobTrip.{job-reading-determined}
 use Rattle.feed.specs.Burst.{fresh}
 use Rattle.feed.specs.Ending.{short, told}
@@ -9,7 +11,7 @@ use Rattle.feed.specs.declared.EndAnswer.{EndAnswer}
 use Rattle.bursts.specs.Bursts.{EndDetermined}
 use Rattle.bursts.proofs.HeldLaws.{some-held}
 
-abbrev ended : JobAnswer → EndAnswer
+abbrev ended : Result Job Failure → EndAnswer
 ended answer = record { answer = answer; state = fresh }
 
 pub end-determined : EndDetermined

@@ -1,18 +1,17 @@
 -- Bursts fed one after the other, and the end behind them (heading "Jobs in bursts").
-use Rattle.std.specs.Prelude.{List, [], ◌∷◌, ◌++◌, ◌≡◌, ℕ, ◌≤◌, ℤ, length}
+use Rattle.std.specs.Prelude.{Result, Ok, Err, List, [], ◌∷◌, ◌++◌, ◌≡◌, ℕ, ◌≤◌, ℤ, length}
 use Rattle.grid.specs.Limits.{job_most}
 use Rattle.curve.specs.Lists.{Lists}
 use Rattle.job.specs.JobReading.{JobRead}
 use Rattle.feed.specs.Burst.{fresh, burst_answer, work_after}
 use Rattle.feed.specs.Ending.{Holds, FeedEnds}
 use Rattle.feed.specs.declared.Feed.{Feed}
-use Rattle.feed.specs.declared.BurstAnswer.{BurstAnswer}
-use Rattle.feed.specs.declared.BurstAnswer.TheVariants.{Fed, Refused}
+use Rattle.refusal.specs.declared.Refusal.{Refusal}
 use Rattle.feed.specs.declared.EndAnswer.{EndAnswer}
 
-abbrev pub state_after : BurstAnswer → Feed → Feed  -- the state that a caller goes on with: a refusal hands no new one back
-state_after (Fed next) state = next
-state_after (Refused number) state = state
+abbrev pub state_after : Result Feed Refusal → Feed → Feed  -- the state that a caller goes on with: a refusal hands no new one back
+state_after (Ok next) state = next
+state_after (Err refusal) state = state
 
 -- state and work list after bursts, each handed on unaltered from one call to the next
 abbrev pub fed_all : Feed → List ℕ → List (List ℕ) → Feed × List ℕ

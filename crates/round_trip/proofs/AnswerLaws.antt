@@ -1,4 +1,4 @@
--- What an answer says of the number behind it, and what holds of every number that can be.
+-- What a number says of the check before it, and what holds of every number that can be.
 use mathlib.Core.Bool.{Bool, true, false, cond}
 use mathlib.Core.Path.{◌≡◌, refl, sym, ◌∙◌}
 use mathlib.Core.List.{List}
@@ -6,7 +6,6 @@ use Prim.Native.Nat.{ℕ, ◌≤◌}
 use lib.Dec.{eqb}
 use lib.IntN.{ℤ}
 use borrow.Author.Tests.{eqb-true, eqb-false}
-use Rattle.refusal.specs.Judging.{answered}
 use Rattle.refusal.specs.Numbers.{range_refused}
 use Rattle.grid.specs.Check.{check_number, checked_then}
 use Rattle.grid.proofs.CheckLaws.{checked_then-split, check_number-most}
@@ -30,28 +29,3 @@ module _ (m : ℕ) (ts : List ℕ) (xs ys : List ℤ) (next : ℕ) where
   checked_then-all P low h =
       rw (checked_then-split m ts xs ys next)
       (split-all (check_number m ts xs ys) next P (eqb (check_number m ts xs ys) 0) (low (check_number m ts xs ys) (check_number-most m ts xs ys)) h)
-
-module _ {A B : Type 0} (done : B → A) (refused : ℕ → A) where
-  -- an answer that is no refusal is the value, and nothing was refused
-  pub answered-value : (a : A) → ((n : ℕ) → a ≡ refused n → ⊥) → (number : ℕ) (v : B) → a ≡ answered done refused number v → (number ≡ 0) × (a ≡ done v)
-  answered-value a apart number v e = by (eqb number 0) refl e
-    where
-      by : (b : Bool) → eqb number 0 ≡ b → a ≡ cond b (done v) (refused number) → (number ≡ 0) × (a ≡ done v)
-      by true t same = (eqb-true number 0 t, same)
-      by false t same = absurd (apart number same)
-
-  -- and one that is no value is the refusal
-  pub answered-number : (a : A) → ((v : B) → a ≡ done v → ⊥) → (number : ℕ) (v : B) → a ≡ answered done refused number v → (number ≡ 0 → ⊥) × (a ≡ refused number)
-  answered-number a apart number v e = by (eqb number 0) refl e
-    where
-      by : (b : Bool) → eqb number 0 ≡ b → a ≡ cond b (done v) (refused number) → (number ≡ 0 → ⊥) × (a ≡ refused number)
-      by true t same = absurd (apart v same)
-      by false t same = (eqb-false number 0 t, same)
-
-  -- nor is an answer anything that is neither
-  pub answered-other : (a : A) → ((v : B) → done v ≡ a → ⊥) → ((n : ℕ) → refused n ≡ a → ⊥) → (number : ℕ) (v : B) → answered done refused number v ≡ a → ⊥
-  answered-other a apart others number v e = by (eqb number 0) e
-    where
-      by : (b : Bool) → cond b (done v) (refused number) ≡ a → ⊥
-      by true f = apart v f
-      by false f = others number f

@@ -1,4 +1,5 @@
 -- Records: reading and writing undo each other, and reading has one outcome.
+use Rattle.std.specs.Prelude.{Result, Ok}
 use mathlib.Core.Bool.{true}
 use mathlib.Core.List.{List}
 use mathlib.Core.Logic.{◌↔◌}
@@ -9,6 +10,10 @@ use lib.Dec.{lit≤}
 use lib.ListN.{length}
 use Rattle.lent.specs.Lent.{over, after}
 use Rattle.refusal.specs.Numbers.{room_refused}
+use Rattle.refusal.specs.declared.Refusal.{Refusal}
+use Rattle.refusal.proofs.AnswerLaws.{answers-value}
+use Rattle.taken_field.specs.declared.Failure.{Failure}
+use Rattle.stored_check.proofs.ToldLaws.{judged_apart, judged_number, broken_number, tells_one, tells_value, tells_other}
 use Rattle.refusal.proofs.JudgingLaws.{unless-all}
 use Rattle.curve.specs.HandingOver.{room_for, handed_over}
 use Rattle.curve.specs.Lists.{Lists}
@@ -22,45 +27,33 @@ use Rattle.format.proofs.SizeLaws.{record-most}
 use Rattle.curve.proofs.HandingLaws.{handed_over-refused}
 use Rattle.fault.specs.Fault.{Fault}
 use Rattle.fault.specs.Kinds.{lone_records}
-use Rattle.fault.specs.Verdict.{Verdict, number_of}
+use Rattle.fault.specs.Verdict.{Verdict, judged, broken, number_of}
 use Rattle.fault.proofs.OneFaultLaws.{one-fault, file-no-fault, fault-refuses}
 use Rattle.breaks.proofs.LoneLaws.{one-record}
-use Rattle.record.specs.Writing.{write_number, write_answer}
-use Rattle.record.specs.Reading.{record_number, read_answer, RecordComesTo, RecordRead, is_record, is_broken}
-use Rattle.record.specs.declared.WriteAnswer.TheVariants.{Written}
-use Rattle.record.specs.declared.ReadAnswer.TheVariants.{Curve, Broken, Refused}
+use Rattle.record.specs.Writing.{write_number, WriteAnswers}
+use Rattle.record.specs.Reading.{record_number, ReadAnswers, RecordComesTo, RecordRead, is_record, is_broken}
+use Rattle.record.specs.declared.StoredCurve.{StoredCurve}
 use Rattle.record.proofs.WriteLaws.{write_done}
-use Rattle.round_trip.specs.RoundTrip.{front_of, WrittenReadsBack, ReadWritesBack, OneRecordForEachCurve, FaultsExactly, ReadingDetermined, RecordsShort}
-use Rattle.round_trip.proofs.AnswerLaws.{checked_then-zero, checked_then-all, answered-value, answered-other}
+use Rattle.round_trip.specs.RoundTrip.{front_of, read_as, WrittenReadsBack, ReadWritesBack, OneRecordForEachCurve, FaultsExactly, ReadingDetermined, RecordsShort}
+use Rattle.round_trip.proofs.AnswerLaws.{checked_then-zero, checked_then-all}
 use Rattle.round_trip.proofs.StorableLaws.{passes-storable}
-
--- a curve is no refusal
-curve-apart : (m n number : ℕ) → Curve m n ≡ Refused number → ⊥
-curve-apart m n number e = let z : ◌≡◌ {A = ℕ} 0 1 = cc in omega arith
-
--- broken bytes are neither
-broken-curve : (number place m n : ℕ) → Broken number place ≡ Curve m n → ⊥
-broken-curve number place m n e = let z : ◌≡◌ {A = ℕ} 0 1 = cc in omega arith
-
-broken-refused : (number place n : ℕ) → Broken number place ≡ Refused n → ⊥
-broken-refused number place n e = let z : ◌≡◌ {A = ℕ} 0 1 = cc in omega arith
 
 -- whatever bytes come to, the answer and the lists are one
 one-outcome : {bytes : List ℕ} {before : Lists} {s t : Verdict} {m d : ℕ} {c e : Lists} → RecordComesTo bytes before s m c → RecordComesTo bytes before t d e
-    → (read_answer s m (length c.xs) ≡ read_answer t d (length e.xs)) × (handed_over (number_of s) c before ≡ handed_over (number_of t) e before)
-one-outcome (is_record w) (is_record v) = let same = one-record w v in (rw (same.degree, same.curve), rw (same.degree, same.curve))
+    → ((a : Result StoredCurve Failure) → ReadAnswers s m (length c.xs) a → ReadAnswers t d (length e.xs) a) × (handed_over (number_of s) c before ≡ handed_over (number_of t) e before)
+one-outcome (is_record w) (is_record v) = let same = one-record w v in (rw (same.degree, same.curve) (λ a h. h), rw (same.degree, same.curve))
 one-outcome {bytes = bytes} (is_record w) (is_broken g d e) = absurd (file-no-fault lone_records bytes g w)
 one-outcome {bytes = bytes} (is_broken f m c) (is_record v) = absurd (file-no-fault lone_records bytes f v)
-one-outcome {bytes = bytes} {before = before} (is_broken {number = n} f m c) (is_broken {number = k} g d e) =
+one-outcome {bytes = bytes} {before = before} (is_broken {number = n} {place = p} f m c) (is_broken {number = k} {place = q} g d e) =
     let same = one-fault lone_records bytes f g in (
-      ap₂ Broken same.0 same.1,
+      λ a h. tells_other (broken k q) _ a (λ z. judged_apart 0 k q (sym z)) (h.0 ∙ ap₂ broken same.0 same.1),
       handed_over-refused n c before (fault-refuses lone_records bytes f) ∙ sym (handed_over-refused k e before (fault-refuses lone_records bytes g)),
     )
 
 pub reading-determined : ReadingDetermined
 reading-determined bytes before answer other now then p q =
     let same = one-outcome p.comes_to q.comes_to in
-    (p.answers ∙ same.0 ∙ sym q.answers, p.hands ∙ same.1 ∙ sym q.hands)
+    (tells_one q.verdict _ answer other (same.0 answer p.answers) q.answers, p.hands ∙ same.1 ∙ sym q.hands)
 
 number-accepted : (m : ℕ) (c before : Lists) → Passes m c.knots c.xs c.ys → room_for c before ≡ true → record_number m c before ≡ 0
 unfolding record_number
@@ -71,7 +64,7 @@ written-reads-back m c p before answer now room read =
     let w : IsRecord form1 (record_bytes form1 m c) = record { m = m; c = c; storable = passes-storable m c p; same = refl } in
     let zero : record_number m c before ≡ 0 = number-accepted m c before p room in
     let same = one-outcome read.comes_to (is_record w) in
-    (read.answers ∙ same.0 ∙ rw zero, read.hands ∙ same.1 ∙ rw zero)
+    (tells_value _ _ answer (same.0 answer read.answers) (ap judged zero), read.hands ∙ same.1 ∙ rw zero)
 
 number-passes : (m : ℕ) (c before : Lists) → record_number m c before ≡ 0 → Passes m c.knots c.xs c.ys
 unfolding record_number
@@ -84,11 +77,9 @@ pub record Stored (bytes : List ℕ) (m n : ℕ) (c : Lists) : Type 0 where
   pub same : bytes ≡ record_bytes form1 m c
 
 module _ (bytes : List ℕ) (before : Lists) (m n : ℕ) (now : Lists) where
-  front-stored : (w : IsRecord form1 bytes) → record_number w.m w.c before ≡ 0 → Curve m n ≡ Curve w.m (length w.c.xs) → now ≡ handed_over 0 w.c before
+  front-stored : (w : IsRecord form1 bytes) → record_number w.m w.c before ≡ 0 → m ≡ w.m → n ≡ length w.c.xs → now ≡ handed_over 0 w.c before
       → Stored bytes m n (front_of m n now)
-  front-stored w zero e h =
-      let is_m : m ≡ w.m = cc in
-      let is_n : n ≡ length w.c.xs = cc in
+  front-stored w zero is_m is_n h =
       let p = number-passes w.m w.c before zero in
       let sizes = sizes-of-passes w.m w.c.knots w.c.xs w.c.ys p in
       let front : front_of m n now ≡ w.c =
@@ -97,22 +88,22 @@ module _ (bytes : List ℕ) (before : Lists) (m n : ℕ) (now : Lists) where
       (over-front w.c.ys before.ys now.ys n (omega (arith, sizes.as_many)) (same-ys h)) in
       subst₂ (λ d c. Stored bytes d n c) (sym is_m) (sym front) (record { passes = p; points = sym is_n; same = w.same })
 
-  stored-by : {verdict : Verdict} {d : ℕ} {c : Lists} → RecordComesTo bytes before verdict d c → Curve m n ≡ read_answer verdict d (length c.xs)
+  stored-by : {verdict : Verdict} {d : ℕ} {c : Lists} → RecordComesTo bytes before verdict d c → ReadAnswers verdict d (length c.xs) (read_as m n)
       → now ≡ handed_over (number_of verdict) c before → Stored bytes m n (front_of m n now)
-  stored-by (is_broken {number = number} {place = place} f d c) e h = absurd (broken-curve number place m n (sym e))
+  stored-by (is_broken {number = number} {place = place} f d c) e h = absurd (judged_apart 0 number place e.0)
   stored-by (is_record w) e h =
-      let a = answered-value (Curve w.m) Refused (Curve m n) (curve-apart m n) (record_number w.m w.c before) (length w.c.xs) e in
-      front-stored w a.0 a.1 (h ∙ ap (λ (k : ℕ). handed_over k w.c before) a.0)
+      let zero : record_number w.m w.c before ≡ 0 = sym (judged_number 0 (record_number w.m w.c before) e.0) in
+      front-stored w zero (ap (λ (r : StoredCurve). r.degree) e.1) (ap (λ (r : StoredCurve). r.points) e.1) (h ∙ ap (λ (k : ℕ). handed_over k w.c before) zero)
 
-  pub read-stored : RecordRead bytes before (Curve m n) now → Stored bytes m n (front_of m n now)
+  pub read-stored : RecordRead bytes before (read_as m n) now → Stored bytes m n (front_of m n now)
   read-stored read = stored-by read.comes_to read.answers read.hands
 
 -- writing a curve that passes, where there is room
 written : {n : ℕ} (m : ℕ) (c : Lists) (bytes out : List ℕ) → Stored bytes m n c → length bytes ≤ length out
-    → (write_answer m c out ≡ Written (length bytes)) × (after (write_number m c out) (record_bytes form1 m c) out ≡ over bytes out)
+    → ((answer : Result ℕ Refusal) → WriteAnswers m c out answer → answer ≡ Ok (length bytes)) × (after (write_number m c out) (record_bytes form1 m c) out ≡ over bytes out)
 written m c bytes out s room =
     let zero : write_number m c out ≡ 0 = write_done m c out s.passes (rw s.same at room) in
-    (rw (zero, s.same), rw (zero, s.same))
+    (λ answer h. answers-value (write_number m c out) (length (record_bytes form1 m c)) answer h zero ∙ rw s.same refl, rw (zero, s.same))
 
 pub read-writes-back : ReadWritesBack
 read-writes-back bytes before m n now read out room = written m (front_of m n now) bytes out (read-stored bytes before m n now read) room
@@ -127,25 +118,20 @@ number-most m c before =
     checked_then-all m c.knots c.xs c.ys _ (λ n. n ≤ room_refused) (λ n h. omega arith) (unless-all (λ n. n ≤ room_refused) (room_for c before) room_refused 0 (lit≤ tt) (lit≤ tt))
 
 faults-by : {bytes : List ℕ} {before : Lists} {verdict : Verdict} {m : ℕ} {c : Lists} (number place : ℕ) → RecordComesTo bytes before verdict m c
-    → (read_answer verdict m (length c.xs) ≡ Broken number place) ↔ Fault lone_records bytes number place
+    → (verdict ≡ broken number place) ↔ Fault lone_records bytes number place
 faults-by {bytes = bytes} number place (is_broken {number = n} {place = p} f m c) = (
-  λ e.
-      let is_number : n ≡ number = cc in
-      let is_place : p ≡ place = cc in
-      subst₂ (Fault lone_records bytes) is_number is_place f,
-  λ g. let same = one-fault lone_records bytes f g in ap₂ Broken same.0 same.1,
+  λ e. let same = broken_number n number p place e in subst₂ (Fault lone_records bytes) same.0 same.1 f,
+  λ g. let same = one-fault lone_records bytes f g in ap₂ broken same.0 same.1,
 )
 faults-by {bytes = bytes} {before = before} number place (is_record w) = (
-  λ e. absurd
-      (answered-other (Curve w.m) Refused (Broken number place) (λ n f. broken-curve number place w.m n (sym f)) (λ n f. broken-refused number place n (sym f))
-      (record_number w.m w.c before) (length w.c.xs) e),
+  λ e. absurd (judged_apart (record_number w.m w.c before) number place e),
   λ g. absurd (file-no-fault lone_records bytes g w),
 )
 
 pub faults-exactly : FaultsExactly
 faults-exactly bytes before answer now number place read =
     let by = faults-by number place read.comes_to in
-    (λ e. by.0 (sym read.answers ∙ e), λ g. read.answers ∙ by.1 g)
+    (λ e. by.0 (sym read.answers.0 ∙ e), λ g. read.answers.0 ∙ by.1 g)
 
 pub records-short : RecordsShort
 records-short bytes w = rw w.same (record-most w.m w.c w.storable)
