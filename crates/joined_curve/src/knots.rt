@@ -8,12 +8,15 @@ ghost use Rattle.joined_curve.specs.Curve.{end_knots, inner_of, joined_knots};
 use crate::Meeting;
 use spline_pieces::AxisPoints;
 
-// A knot as often as an end value stands, from place `at` on.
+// A knot as often as an end value stands, from place `at` on. Four stores: one copy of an array of four was tried, and is slower.
 fn put_knots(knot: u16, out: &mut [u16], at: usize)
     requires { at + 4 ≤ length out.old }
     ensures result { out.new ≡ sets out.old at (replicate end_knots knot) }
 {
-    out[at..at + 4].copy_from_slice(&[knot; 4]);
+    out[at] = knot;
+    out[at + 1] = knot;
+    out[at + 2] = knot;
+    out[at + 3] = knot;
 }
 
 // All knots, of which both axes have the same. Every parameter is written as an end value; the next one is written over what an inner one has too much.
