@@ -5,7 +5,6 @@ use Prim.Native.Nat.{ℕ, zero, suc, ◌+◌, ◌-◌, ◌*◌, ◌≤◌, ◌<�
 use native.Mathlib.Nat.{suc-mul, mul-le-mul, mul-le-mul_left, mul-le-mul_right}
 use native.Mathlib.Omega.{arith}
 use lib.ListN.{length}
-use Rattle.refusal.specs.Numbers.{accepted}
 use Rattle.curve.specs.Lists.{Lists}
 use Rattle.grid.specs.Limits.{points_most, pair_bytes_most}
 use Rattle.insertion.specs.Insertion.{entries}
@@ -13,8 +12,7 @@ use Rattle.insertion.proofs.EntryLaws.{entries-length}
 use Rattle.cutting.specs.Pieces.{piece_of}
 use Rattle.cutting.specs.declared.Piece.{Piece}
 use Rattle.pieces.specs.declared.Walk.{Walk}
-use Rattle.pieces.specs.declared.Handed.{Handed}
-use Rattle.pieces.specs.Walk.{cut_up_to, AtSpan, Hands, refuses, inner, last}
+use Rattle.pieces.specs.Walk.{cut_up_to, AtSpan, Handed, inner, last}
 use Rattle.pieces.proofs.WalkLaws.{bounds}
 use Rattle.path_data.specs.Text.{path_text}
 use Rattle.path_data.specs.Sentences.{PieceOnGrid}
@@ -50,22 +48,20 @@ module _ (m : ℕ) (c : Lists) (walk : Walk) (at : AtSpan m c walk) where
       omega
       (arith, path_text-most m (entries-on-grid m pieces_at k each-on-grid), ap (λ n. n * (2 + pair_bytes_most * m)) (entries-length pieces_at k), mul-le-mul b.index wide)
 
-  module _ (handed : Handed) (none : handed.number ≡ accepted) where
+  module _ (handed : Piece) (next : Walk) where
     -- the piece that is handed out is on the grid
-    pub handed_on-grid : Hands m c walk handed → PieceOnGrid m handed.piece
-    handed_on-grid (refuses r) = absurd (r.refused none)
+    pub handed_on-grid : Handed m c walk handed next → PieceOnGrid m handed
     handed_on-grid (inner n) =
         let w = n.stands.window in
         let more : suc k * m ≡ k * m + m = suc-mul k m in
-        let next = ap (λ j. j * m) n.index in
+        let later = ap (λ j. j * m) n.index in
         subst (PieceOnGrid m) (sym n.piece)
-        (piece-on-grid m (cut_up_to m c handed.walk.span) k w.passes (omega (arith, w.points, w.inside, more, next)))
+        (piece-on-grid m (cut_up_to m c next.span) k w.passes (omega (arith, w.points, w.inside, more, later)))
     handed_on-grid (last l) =
         subst (PieceOnGrid m) (sym (l.piece ∙ ap (λ d. piece_of m d k) (sym l.same)))
         (piece-on-grid m (cut_up_to m c walk.span) k at.window.passes (each_within k (omega arith)))
 
     -- the walk comes nearer to its end
-    pub nearer : Hands m c walk handed → length c.xs - handed.walk.span < length c.xs - walk.span
-    nearer (refuses r) = absurd (r.refused none)
+    pub nearer : Handed m c walk handed next → length c.xs - next.span < length c.xs - walk.span
     nearer (inner n) = omega (arith, n.rises, n.stands.window.inside)
     nearer (last l) = omega (arith, l.ends, at.window.inside)

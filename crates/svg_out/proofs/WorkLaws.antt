@@ -6,7 +6,10 @@ use Prim.Native.Nat.{ℕ, ◌+◌, ◌≤◌}
 use native.Mathlib.Omega.{arith}
 use lib.ListN.{length, take}
 use Rattle.refusal.specs.Judging.{unless}
+use Rattle.std.specs.Prelude.{Result, Ok, Err}
 use Rattle.refusal.specs.Numbers.{accepted, not_whole_refused}
+use Rattle.refusal.specs.declared.Refusal.{Refusal}
+use Rattle.refusal.proofs.AnswerLaws.{refused-above_zero}
 use Rattle.lent.specs.Lent.{over}
 use Rattle.lent.proofs.OverLaws.{over-length, over-result}
 use Rattle.curve.specs.Lists.{Lists, lists}
@@ -22,16 +25,9 @@ use Rattle.clamping.specs.Clamping.{clamped, clamps_whole, clamp_then, clamp_num
 use Rattle.clamping.specs.Sentences.{ClampedWell}
 use Rattle.clamping.proofs.ClampedLaws.{clamped-passes}
 use Rattle.clamp_ends.specs.Answer.{ClampOutcome}
-use Rattle.clamp_ends.specs.declared.ClampAnswer.TheVariants as clamps
-use Rattle.svg_out.specs.declared.SvgAnswer.{SvgAnswer}
-use Rattle.svg_out.specs.declared.SvgAnswer.TheVariants.{Refused}
 use Rattle.svg_out.specs.Svg.{SvgOutcome}
 use Rattle.svg_out.specs.Measure.{PiecesOutcome, Longest}
 use Rattle.svg_out.proofs.CopyLaws.{clamping-refuses, copy-answers}
-
--- how many points there are, and a refusal, are two answers
-apart : (n number : ℕ) → clamps.Clamped n ≡ clamps.Refused number → ⊥
-apart n number e = let z : ◌≡◌ {A = ℕ} 0 1 = cc in omega arith
 
 -- the first entries of a list that a result was written over
 front-is : {A : Type 0} (n : ℕ) (result before now : List A) → n ≡ length result → now ≡ over result before → take n now ≡ result
@@ -64,34 +60,30 @@ module _ (m : ℕ) (c before : Lists) (passes : Passes m c.knots c.xs c.ys) (lon
   number_is = checked_then-passed m c.knots c.xs c.ys _ passes ∙ ap (unless (clamps_whole m c) not_whole_refused) room-there
 
   -- row 11 refuses
-  module _ (number : ℕ) (now : Lists) (so : ClampOutcome m c before (clamps.Refused number) now) where
-    pub copy-refused : (out : List ℕ) → SvgOutcome m c out (Refused number) out
+  module _ (refusal : Refusal) (now : Lists) (so : ClampOutcome m c before (Err refusal) now) where
+    pub copy-refused : (out : List ℕ) → SvgOutcome m c out (Err refusal) out
     copy-refused out = by (clamps_whole m c) refl
       where
-        by : (b : Bool) → clamps_whole m c ≡ b → SvgOutcome m c out (Refused number) out
+        by : (b : Bool) → clamps_whole m c ≡ b → SvgOutcome m c out (Err refusal) out
         by true whole =
             let zero : clamp_number m c before ≡ 0 = number_is ∙ rw whole in
-            absurd (apart (length copy.xs) number (sym (so.answers ∙ rw zero)))
+            absurd (omega (arith, refused-above_zero refusal, so.answers.0 ∙ zero))
         by false broken =
             let eleven : clamp_number m c before ≡ not_whole_refused = number_is ∙ rw broken in
-            let told : clamps.Refused number ≡ clamps.Refused not_whole_refused = so.answers ∙ rw eleven in
-            let same : number ≡ not_whole_refused = cc in
-            rw same (clamping-refuses m c out passes broken)
+            clamping-refuses m c out passes refusal (so.answers.0 ∙ eleven) broken
 
   -- the copy is there
-  module _ (points : ℕ) (now : Lists) (so : ClampOutcome m c before (clamps.Clamped points) now) where
+  module _ (points : ℕ) (now : Lists) (so : ClampOutcome m c before (Ok points) now) where
     copied : (clamps_whole m c ≡ true) × (points ≡ length copy.xs) × (now ≡ handed_over 0 copy before)
     copied = by (clamps_whole m c) refl
       where
         by : (b : Bool) → clamps_whole m c ≡ b → (clamps_whole m c ≡ true) × (points ≡ length copy.xs) × (now ≡ handed_over 0 copy before)
         by true whole =
             let zero : clamp_number m c before ≡ 0 = number_is ∙ rw whole in
-            let told : clamps.Clamped points ≡ clamps.Clamped (length copy.xs) = so.answers ∙ rw zero in
-            let same : points ≡ length copy.xs = cc in
-            (whole, same, so.hands ∙ rw zero)
+            (whole, so.answers.1, so.hands ∙ rw zero)
         by false broken =
             let eleven : clamp_number m c before ≡ not_whole_refused = number_is ∙ rw broken in
-            absurd (apart points not_whole_refused (so.answers ∙ rw eleven))
+            absurd (omega (arith, so.answers.0 ∙ eleven))
 
     abbrev front : Lists
     front = lists (take (points + m + 1) now.knots) (take points now.xs) (take points now.ys)
@@ -124,6 +116,6 @@ module _ (m : ℕ) (c before : Lists) (passes : Passes m c.knots c.xs c.ys) (lon
     front-ready =
         subst (λ (l : Lists). Passes m l.knots l.xs l.ys × Clamped m l.knots (length l.xs)) (sym front-copy) (well.passes, well.clamped-ends)
 
-    pub front-answers : (out : List ℕ) (answer : SvgAnswer) (end : List ℕ) → PiecesOutcome m front out answer end → SvgOutcome m c out answer end
+    pub front-answers : (out : List ℕ) (answer : Result ℕ Refusal) (end : List ℕ) → PiecesOutcome m front out answer end → SvgOutcome m c out answer end
     front-answers out answer end said =
         copy-answers m c out passes answer end copied.0 (subst (λ (l : Lists). PiecesOutcome m l out answer end) front-copy said)

@@ -6,6 +6,8 @@ use native.Mathlib.Omega.{arith}
 use lib.ListN.{length, drop, length-append}
 use borrow.Author.Tests.{lt-ltb}
 use Rattle.refusal.specs.Numbers.{accepted}
+use Rattle.refusal.specs.declared.Refusal.{Refusal}
+use Rattle.refusal.proofs.AnswerLaws.{refused-above_zero}
 use Rattle.lent.specs.Lent.{over}
 use Rattle.curve.specs.Lists.{Lists}
 use Rattle.insertion.specs.Insertion.{entries}
@@ -17,8 +19,7 @@ use Rattle.cutting.specs.declared.Piece.{Piece}
 use Rattle.digits.specs.Put.{Put}
 use Rattle.digits.proofs.PutLaws.{put-none, put-length, two-joined}
 use Rattle.pieces.specs.declared.Walk.{Walk}
-use Rattle.pieces.specs.declared.Handed.{Handed}
-use Rattle.pieces.specs.Walk.{AtSpan, Hands, refuses, inner, last}
+use Rattle.pieces.specs.Walk.{AtSpan, Refuses, Handed, inner, last}
 use Rattle.pieces.proofs.WalkLaws.{left-of-walk}
 use Rattle.path_data.specs.Text.{move_text, segment_text, path_text, part_text}
 use Rattle.path_data.proofs.TextLaws.{part_text-first, part_text-later, entries-text, entries-within}
@@ -58,63 +59,64 @@ module _ (m : ℕ) (c : Lists) (before : List ℕ) (judged : insertable_each_the
               (lt-ltb _ _ at.window.wide),
         )
 
-    module _ (s : Writing m c before out walk place) (h : walk.span < length c.xs) (handed : Handed) (hands : Hands m c walk handed) where
+    module _ (s : Writing m c before out walk place) (h : walk.span < length c.xs) (handed : Piece) (later : Walk) (hands : Handed m c walk handed later) where
       abbrev k : ℕ
       k = walk.index
 
       abbrev g : ℕ → Piece
       g = piece_of m (cut m c)
 
-      -- nothing is refused, and the piece is the curve's
-      piece_is : Hands m c walk handed → handed.piece ≡ g k
-      piece_is (refuses r) = absurd (r.refused (sym (r.number accepted) ∙ judged))
-      piece_is (inner n) = n.piece ∙ sym (left-of-walk m c handed.walk n.stands judged k (omega (arith, n.index)))
+      -- the piece is the curve's
+      piece_is : Handed m c walk handed later → handed ≡ g k
+      piece_is (inner n) = n.piece ∙ sym (left-of-walk m c later n.stands judged k (omega (arith, n.index)))
       piece_is (last l) = l.piece
 
-      part-is : part_text m k handed.piece ≡ part_text m k (g k)
+      part-is : part_text m k handed ≡ part_text m k (g k)
       part-is = ap (part_text m k) (piece_is hands)
 
-      next-text : text_of m c (suc k) ≡ text_of m c k ++ part_text m k handed.piece
+      next-text : text_of m c (suc k) ≡ text_of m c k ++ part_text m k handed
       next-text = entries-text m g k ∙ ap (λ (l : List ℕ). text_of m c k ++ l) (sym part-is)
 
       -- there is room for it
-      room-for-both : 0 + length (text_of m c k ++ part_text m k handed.piece) ≤ length before
+      room-for-both : 0 + length (text_of m c k ++ part_text m k handed) ≤ length before
       unfolding pieces
       room-for-both =
           let within = entries-within m g (piece_count m c) (suc k) (more-pieces (writing-at s h)) in
           omega (arith, within, ap length next-text, room)
 
       room-for-first : 0 + length (text_of m c k) ≤ length before
-      room-for-first = omega (arith, room-for-both, length-append (text_of m c k) (part_text m k handed.piece))
+      room-for-first = omega (arith, room-for-both, length-append (text_of m c k) (part_text m k handed))
 
-      pub room-for-part : place + length (part_text m k handed.piece) ≤ length out
+      pub room-for-part : place + length (part_text m k handed) ≤ length out
       room-for-part =
           let p = writing-so s h in
-          omega (arith, p.place, put-length p room-for-first, room-for-both, length-append (text_of m c k) (part_text m k handed.piece))
+          omega (arith, p.place, put-length p room-for-first, room-for-both, length-append (text_of m c k) (part_text m k handed))
 
-      goes_on : (after : List ℕ) (next : ℕ) → Put before 0 (text_of m c (suc k)) after next → Hands m c walk handed → Writing m c before after handed.walk next
+      goes_on : (after : List ℕ) (next : ℕ) → Put before 0 (text_of m c (suc k)) after next → Handed m c walk handed later → Writing m c before after later next
       unfolding pieces
-      goes_on after next p (refuses r) = absurd (r.refused (sym (r.number accepted) ∙ judged))
       goes_on after next p (inner n) = going n.stands (subst (λ i. Put before 0 (text_of m c i) after next) (sym n.index) p)
       goes_on after next p (last l) = done l.ends (subst (λ i. Put before 0 (text_of m c i) after next) (sym l.all) p)
 
-      pub writing-goes : (after : List ℕ) (next : ℕ) → Put out place (part_text m k handed.piece) after next → Writing m c before after handed.walk next
+      pub writing-goes : (after : List ℕ) (next : ℕ) → Put out place (part_text m k handed) after next → Writing m c before after later next
       writing-goes after next p =
           goes_on after next
           (subst (λ (l : List ℕ). Put before 0 l after next) (sym next-text)
-          (two-joined before 0 (text_of m c k) (part_text m k handed.piece) room-for-both (writing-so s h) p))
+          (two-joined before 0 (text_of m c k) (part_text m k handed) room-for-both (writing-so s h) p))
           hands
 
       pub still-as-long : length out ≡ length before
       still-as-long = put-length (writing-so s h) room-for-first
 
-      pub write-nearer : length c.xs - handed.walk.span < length c.xs - walk.span
+      pub write-nearer : length c.xs - later.span < length c.xs - walk.span
       write-nearer = by hands
         where
-          by : Hands m c walk handed → length c.xs - handed.walk.span < length c.xs - walk.span
-          by (refuses r) = absurd (r.refused (sym (r.number accepted) ∙ judged))
+          by : Handed m c walk handed later → length c.xs - later.span < length c.xs - walk.span
           by (inner n) = omega (arith, n.rises, n.stands.window.inside)
           by (last l) = omega (arith, l.ends, h)
+
+    -- nothing is refused
+    pub write-accepted : (refusal : Refusal) → Refuses m c refusal → ⊥
+    write-accepted refusal r = omega (arith, refused-above_zero refusal, r.number accepted, judged)
 
     -- at the end
     pub write-ends : Writing m c before out walk place → (walk.span < length c.xs → ⊥) → out ≡ over (pieces_text m c) before

@@ -1,16 +1,16 @@
 -- What writing a curve as path data answers and leaves in the lent list (headings "Out to SVG" and "Numbers of refusal"). A copy of the curve is clamped first,
 -- and the pieces are the copy's.
-use Rattle.std.specs.Prelude.{List, ◌≡◌, ℕ, leb, length}
-use Rattle.refusal.specs.Judging.{unless, answered}
+use Rattle.std.specs.Prelude.{List, Result, ◌≡◌, ℕ, leb, length}
+use Rattle.refusal.specs.Answers.{Answers}
+use Rattle.refusal.specs.Judging.{unless}
 use Rattle.refusal.specs.Numbers.{accepted, room_refused}
+use Rattle.refusal.specs.declared.Refusal.{Refusal}
 use Rattle.lent.specs.Lent.{after}
 use Rattle.curve.specs.Lists.{Lists}
 use Rattle.clamping.specs.Clamping.{clamped, clamp_then}
 use Rattle.cutting.specs.Cutting.{cut_then}
 use Rattle.cutting.specs.Pieces.{pieces}
 use Rattle.path_data.specs.Text.{path_text}
-use Rattle.svg_out.specs.declared.SvgAnswer.{SvgAnswer}
-use Rattle.svg_out.specs.declared.SvgAnswer.TheVariants.{Written, Refused}
 
 abbrev pub pieces_text : ℕ → Lists → List ℕ  -- the path data over a curve's own pieces
 pieces_text m c = path_text m (pieces m c)
@@ -34,9 +34,9 @@ unfoldable pub svg_number : ℕ → Lists → List ℕ → ℕ
 svg_number m c out = draw_then m c (fitting (svg_text m c) out)
 
 -- what a call answers and leaves by its number and its text: how many bytes were written, and the text at the front of the lent list; or the number alone
-pub record TextOutcome (number : ℕ) (text before : List ℕ) (answer : SvgAnswer) (now : List ℕ) : Type 0 where
-  pub answers : answer ≡ answered Written Refused number (length text)
+pub record TextOutcome (number : ℕ) (text before : List ℕ) (answer : Result ℕ Refusal) (now : List ℕ) : Type 0 where
+  pub answers : Answers number (length text) answer
   pub hands : now ≡ after number text before
 
-abbrev pub SvgOutcome : ℕ → Lists → List ℕ → SvgAnswer → List ℕ → Type 0  -- for any curve
+abbrev pub SvgOutcome : ℕ → Lists → List ℕ → Result ℕ Refusal → List ℕ → Type 0  -- for any curve
 SvgOutcome m c before answer now = TextOutcome (svg_number m c before) (svg_text m c) before answer now

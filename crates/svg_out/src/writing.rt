@@ -2,42 +2,44 @@
 ghost use Rattle.std.specs.Prelude.{◌≡◌, ◌+◌, ◌≤◌, length};
 ghost use Rattle.lent.specs.Lent.{over};
 ghost use Rattle.curve.specs.Lists.{lists};
-ghost use Rattle.grid.specs.Check.{Passes};
+ghost use Rattle.checked.specs.Along.{lists_of};
 ghost use Rattle.checked.specs.Checked.{Clamped};
 ghost use Rattle.cutting.specs.Cutting.{cuts, insertable_each_then};
 ghost use Rattle.digits.specs.Put.{Put};
 ghost use Rattle.path_data.specs.Text.{part_text};
 ghost use Rattle.svg_out.specs.Svg.{pieces_text};
 
+use checked::Curve;
 use cutting::Piece;
+use digits::Pen;
 
-// Puts piece k; the move to its start stands before the first.
-fn put_part(out: &mut [u8], at: usize, m: usize, k: usize, piece: Piece) -> usize
+// Writes piece k; the move to its start stands before the first.
+fn put_part(pen: &mut Pen<'_>, m: usize, k: usize, piece: Piece)
     requires m_bound { m ≤ 3 }
-    requires piece_in_bounds { at + length (part_text m k piece) ≤ length out.old }
-    ensures result { Put out.old at (part_text m k piece) out.new result }
+    requires piece_in_bounds { pen.old.at + length (part_text m k piece) ≤ length pen.old.out.now }
+    ensures result { Put pen.old.out.now pen.old.at (part_text m k piece) pen.new.out.now pen.new.at }
+    ensures name { pen.new.out.ghost_name ≡ pen.old.out.ghost_name }
 {
-    if k > 0 {
-        return path_text::put_segment(out, at, m, piece);
+    if k == 0 {
+        path_text::put_move(pen, piece);
     }
-    let next = path_text::put_move(out, at, piece);
-    path_text::put_segment(out, next, m, piece)
+    path_text::put_segment(pen, m, piece);
 }
 
-// Walks over the pieces and puts one behind the other.
-pub(crate) fn put_path(m: usize, knots: &[u16], xs: &[i32], ys: &[i32], out: &mut [u8])
-    requires passes { Passes m knots.now xs.now ys.now }
-    requires clamped { Clamped m knots.now (length xs.now) }
-    requires ys_value { insertable_each_then m (cuts m (lists knots.now xs.now ys.now)) (lists knots.now xs.now ys.now) 0 ≡ 0 }
-    requires ys_in_bounds { length (pieces_text m (lists knots.now xs.now ys.now)) ≤ length out.old }
-    ensures result { out.new ≡ over (pieces_text m (lists knots.now xs.now ys.now)) out.old }
+// Walks over the pieces and writes one behind the other.
+pub(crate) fn put_path(curve: Curve<'_>, out: &mut [u8])
+    requires clamped { Clamped curve.degree curve.knots.now (length curve.xs.now) }
+    requires accepted { insertable_each_then curve.degree (cuts curve.degree (lists curve.knots.now curve.xs.now curve.ys.now)) (lists curve.knots.now curve.xs.now curve.ys.now) 0 ≡ 0 }
+    requires room { length (pieces_text curve.degree (lists curve.knots.now curve.xs.now curve.ys.now)) ≤ length out.old }
+    ensures result { out.new ≡ over (pieces_text curve.entry.degree (lists_of curve.entry)) out.old }
 {
-    let mut walk = pieces::start(m, xs, ys);
-    let mut place = 0;
-    while walk.span < xs.len() {
-        let handed = pieces::next_piece(m, knots, xs, ys, walk);
-        let piece = handed.piece;
-        place = put_part(out, place, m, walk.index, piece);
-        walk = handed.walk;
+    let mut pen = Pen { out, at: 0 };
+    let mut walk = pieces::start(curve);
+    while walk.span < curve.xs.len() {
+        let Ok((piece, next)) = pieces::next_piece(curve, walk) else {
+            return; // never: measuring was refused nothing
+        };
+        put_part(&mut pen, curve.degree, walk.index, piece);
+        walk = next;
     }
 }

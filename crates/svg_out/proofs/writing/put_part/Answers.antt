@@ -3,33 +3,32 @@ use native.Mathlib.Omega.{arith}
 use Rattle.digits.proofs.PutLaws.{two-first, two-second, two-joined}
 use Rattle.path_data.specs.Text.{move_text, segment_text}
 use Rattle.svg_out.proofs.WriteLaws.{part-segment, part-both}
+use Rattle.svg_out.proofs.writing.put_part.Goals.{then-k-eq0, else-k-eq0}
 use Rattle.svg_out.proofs.writing.put_part.Goals as goal
 
-pub put_segment-requires : goal.put_segment-requires
-put_segment-requires c =
-    let a = c.args in
-    let text = part-segment a.m a.k a.piece (omega (arith, c.if-k-gt0.true)) in record { m_bound = c.requires.m_bound; piece_in_bounds = rw text c.requires.piece_in_bounds }
+pub put_move-requires : goal.put_move-requires
+put_move-requires c = let a = c.args in
+    let text = part-both a.m a.k a.piece c.if-k-eq0.true in
+    two-first a.pen.now.out.now a.pen.now.at (move_text a.piece) (segment_text a.m a.piece) (rw text c.requires.piece_in_bounds)
 
-pub returns-then-k-gt0 : goal.returns-then-k-gt0
-returns-then-k-gt0 c = record {
-  result = let a = c.args in
-      let text = part-segment a.m a.k a.piece (omega (arith, c.if-k-gt0.true)) in
-      rw (← text) c.put_segment.ensures.result;
-}
+pub put_segment-requires-clause-piece_in_bounds : goal.put_segment-requires-clause-piece_in_bounds
+put_segment-requires-clause-piece_in_bounds c = let a = c.args in
+    elim c.if-k-eq0.branch [
+      | then-k-eq0 w ↦
+          let text = part-both a.m a.k a.piece w.if-k-eq0.true in
+          rw w.pen-is (two-second a.pen.now.out.now a.pen.now.at (move_text a.piece) (segment_text a.m a.piece) (rw text c.requires.piece_in_bounds) w.put_move.ensures.result)
+      | else-k-eq0 w ↦
+          let text = part-segment a.m a.k a.piece (omega (arith, w.if-k-eq0.false)) in
+          rw w.pen-is (rw text c.requires.piece_in_bounds)
+    ]
 
-pub put_move-next-requires : goal.put_move-next-requires
-put_move-next-requires c = let a = c.args in
-    let text = part-both a.m a.k a.piece (omega (arith, c.if-k-gt0.false)) in
-    two-first a.out.now a.at (move_text a.piece) (segment_text a.m a.piece) (rw text c.requires.piece_in_bounds)
-
-pub put_segment-requires-2 : goal.put_segment-requires-2
-put_segment-requires-2 c =
-    let a = c.args in
-    let text = part-both a.m a.k a.piece (omega (arith, c.if-k-gt0.false)) in record { m_bound = c.requires.m_bound; piece_in_bounds = two-second a.out.now a.at (move_text a.piece) (segment_text a.m a.piece) (rw text c.requires.piece_in_bounds) c.put_move-next.ensures.result }
-
-pub returns : goal.returns
-returns c = record {
-  result = let a = c.args in
-      let text = part-both a.m a.k a.piece (omega (arith, c.if-k-gt0.false)) in
-      rw (← text) (two-joined a.out.now a.at (move_text a.piece) (segment_text a.m a.piece) (rw text c.requires.piece_in_bounds) c.put_move-next.ensures.result c.put_segment-2.ensures.result);
-}
+pub returns-clause-result : goal.returns-clause-result
+returns-clause-result c = let a = c.args in
+    elim c.if-k-eq0.branch [
+      | then-k-eq0 w ↦
+          let text = part-both a.m a.k a.piece w.if-k-eq0.true in
+          rw (← text) (two-joined a.pen.now.out.now a.pen.now.at (move_text a.piece) (segment_text a.m a.piece) (rw text c.requires.piece_in_bounds) w.put_move.ensures.result (rw w.pen-is at c.put_segment.ensures.result))
+      | else-k-eq0 w ↦
+          let text = part-segment a.m a.k a.piece (omega (arith, w.if-k-eq0.false)) in
+          rw (← text) (rw w.pen-is at c.put_segment.ensures.result)
+    ]
