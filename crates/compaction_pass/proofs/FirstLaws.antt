@@ -1,11 +1,12 @@
 -- How many knots stand up to t_m: more than m, no more than there are points, and the next one lies above t_m.
 use mathlib.Core.List.{List}
-use mathlib.Core.Path.{◌≡◌}
+use mathlib.Core.Path.{◌≡◌, sym}
 use Prim.Native.Nat.{ℕ, ◌+◌, ◌≤◌, ◌<◌}
 use native.Mathlib.Nat.{le_refl}
 use native.Mathlib.Omega.{arith}
 use lib.IntN.{ℤ}
-use lib.ListN.{length, get_or}
+use lib.ListN.{length, get_or, take}
+use lib.Seq.{length-take-le}
 use Rattle.grid.specs.Check.{Passes}
 use Rattle.grid.proofs.SizeLaws.{sizes-of-passes}
 use Rattle.checked.proofs.CheckedLaws.{checked-of-passes}
@@ -40,3 +41,9 @@ module _ (m : ℕ) (ts : List ℕ) (xs ys : List ℤ) (passing : Passes m ts xs 
 
     pub knots-reach : first + m + 1 ≤ length ts
     knots-reach = omega (arith, points-reach, (sizes-of-passes m ts xs ys passing).knots)
+
+-- a part that a list has is as long as it should be
+pub as-long : {A : Type 0} (l : List A) (n : ℕ) → n ≤ length l → n ≡ length (take n l)
+as-long l n h = sym (length-take-le n l h)
+
+pub ruleset first_reach = (points-reach, others-reach, knots-reach, as-long)

@@ -4,38 +4,30 @@
 
 mod start;
 
-ghost use Rattle.grid.specs.Check.{Passes};
-ghost use Rattle.curve.specs.Lists.{lists};
+ghost use Rattle.std.specs.Prelude.{length};
+ghost use Rattle.checked.specs.Along.{lists_of};
 ghost use Rattle.value_removal.specs.Work.{Holding};
 ghost use Rattle.compaction_pass.specs.Outcome.{PassOutcome};
-ghost use Rattle.std.specs.Prelude.{length};
 
-// One pass over the inner values, from left to right: what is left of the curve stands at the front of the last three lists.
+use checked::Curve;
+use curve::Lent;
+
+// One pass over the inner values, from left to right: what is left of the curve stands at the front of the lent lists.
 // Answers the number of points that are left.
-pub fn compact_into(
-    m: usize,
-    knots: &[u16],
-    xs: &[i32],
-    ys: &[i32],
-    front_knots: &mut [u16],
-    front_xs: &mut [i32],
-    front_ys: &mut [i32],
-) -> usize
-    requires passes { Passes m knots.now xs.now ys.now }
-    requires holding { Holding m (length xs.now) front_knots.old front_xs.old front_ys.old }
-    ensures answer { PassOutcome m (length xs.now) (lists knots.now xs.now ys.now)
-        front_knots.new front_xs.new front_ys.new result }
+pub fn compact_into(curve: Curve<'_>, front: Lent<'_>) -> usize
+    requires holding { Holding curve.degree (length curve.xs.now) front.knots.now front.xs.now front.ys.now }
+    ensures answer { PassOutcome curve.entry.degree (length curve.entry.xs.now) (lists_of curve.entry)
+        front.exit.0.now front.exit.1.0.now front.exit.1.1.0.now result }
 {
-    let n = xs.len();
-    let width = m + 1;
-    let mut left = start::copy_first(m, knots, xs, ys, front_knots, front_xs, front_ys);
-    let mut taken = left;
-    while taken < n {
-        front_knots[left + width] = knots[taken + width];
-        front_xs[left] = xs[taken];
-        front_ys[left] = ys[taken];
-        left = value_removal::remove_value(m, left + 1, front_knots, front_xs, front_ys);
-        taken += 1;
+    let Lent { knots, xs, ys } = front;
+    let width = curve.degree + 1;
+    let first = start::copy_first(curve, knots, xs, ys);
+    let mut left = first;
+    for taken in first..curve.xs.len() {
+        knots[left + width] = curve.knots[taken + width];
+        xs[left] = curve.xs[taken];
+        ys[left] = curve.ys[taken];
+        left = value_removal::remove_value(curve.degree, left + 1, knots, xs, ys);
     }
     left
 }
