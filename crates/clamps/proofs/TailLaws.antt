@@ -38,3 +38,6 @@ module _ (bytes : List ℕ) (at count : ℕ) where
         → clamps_from left bytes at count ≡ clamps_from next bytes (at + clamp_field_bytes) (count + 1)
     unfolding clamps_from
     tail-next left next len n e = ap (λ (k : ℕ). clamps_from k bytes at count) n ∙ rw (lt-leb (length bytes) at more, e)
+
+-- the ways of judging
+pub ruleset tail_ways = (tail-done, tail-full, tail-broken, tail-next)

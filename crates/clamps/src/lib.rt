@@ -30,6 +30,7 @@ const CLAMP_RULE: Rule = Rule {
 };
 
 // How many clamps' fields stand from `start` to the end of the bytes.
+#[tactic(auto, using(crate::proofs::TailLaws::tail_ways))]
 pub fn clamps_behind(bytes: &[u8], start: usize) -> Result<usize, Break>
     ensures answer { result ≡ clamps_behind bytes.now start }
 {
@@ -70,6 +71,7 @@ fn clamp_ok(bytes: &[u8], at: usize) -> bool
 }
 
 // Row 14 for every clamp.
+#[tactic(auto, using(crate::proofs::SideLaws::ok_ways))]
 pub fn clamps_ok(bytes: &[u8], start: usize, count: usize) -> bool
     requires { start + clamp_field_bytes * count ≤ length bytes.now }
     ensures answer { result ≡ clamps_ok (clamps_at bytes.now start count) }
@@ -83,6 +85,7 @@ pub fn clamps_ok(bytes: &[u8], start: usize, count: usize) -> bool
 }
 
 // Puts a clamp's four sides into a list of sides from `to` on.
+#[tactic(auto, using(crate::proofs::SideLaws::sides_put))]
 fn put_sides(bytes: &[u8], at: usize, out: &mut [i32], to: usize)
     requires { (at + clamp_field_bytes ≤ length bytes.now) × (to + clamp_sides ≤ length out.old) }
     ensures result { out.new ≡ put_at out.old to (sides (clamp_at bytes.now at)) }
