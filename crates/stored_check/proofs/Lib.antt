@@ -1,2 +1,3 @@
 -- Verdict and value fix a reader's answer.
 pub mod ToldLaws
+mod Controls
