@@ -1,9 +1,10 @@
 -- What Tsaghnobir promises beyond the contracts of its calls, a statement each. Every word stands in the definitions that those contracts
 -- cite; `proofs/Proved.antt` proves each statement under the same name.
-use Rattle.std.specs.Prelude.{true, List, [], ◌≡◌, ℕ, suc, ◌-◌, ◌*◌, ◌≤◌, ℤ, length, get_or}
+use Rattle.std.specs.Prelude.{true, List, [], Result, ◌≡◌, ℕ, suc, ◌-◌, ◌*◌, ◌≤◌, ℤ, length, get_or}
 use Rattle.curve.specs.Lists.{Lists}
 use Rattle.grid.specs.Check.{check_number, Passes}
 use Rattle.refusal.specs.Chain.{AnswersFirst}
+use Rattle.refusal.specs.declared.Refusal.{Refusal}
 use Rattle.checked.specs.Sentences.{curve_rows}
 use Rattle.curve.specs.Sentences.{RoomExactly, SuccessHandsOver, RefusalHandsNothing}
 use Rattle.domain.specs.Sentences.{EightExactly, AcceptedExactly, CurveJudgedFirst}
@@ -32,9 +33,7 @@ use Rattle.job.specs.JobFormat.{jobs}
 use Rattle.door_outcomes.specs.Exports as Door
 use Rattle.point_at_exact.specs.PointNear.{PointNearExact}
 use Rattle.spans_met_exact.specs.Crossing.{EveryCutReported, NoWidthIsThePoint, EveryCrossingReported}
-use Rattle.remove_knot.specs.declared.RemoveAnswer.{RemoveAnswer}
 use Rattle.remove_knot.specs.Outcome.{RemovalOutcome}
-use Rattle.compact.specs.declared.CompactAnswer.{CompactAnswer}
 use Rattle.compact.specs.Outcome.{CompactOutcome}
 use Rattle.round_trip.specs.RoundTrip as Trip
 use Rattle.job_text.specs.Program.{PartsAreTheText, WrittenIsText, BrokenIsOneLine, OneText}
@@ -131,7 +130,7 @@ RemovalKeepsCurve = RemoveKeepsCurve
 -- "Inserting and removing a knot": the cases of removal's contract leave no choice: two outcomes that it permits for one input are the same
 abbrev pub RemovalDetermined : Type 0
 RemovalDetermined =
-    (m : ℕ) (c : Lists) (v : ℕ) (before : Lists) (a b : RemoveAnswer) (x y : Lists)
+    (m : ℕ) (c : Lists) (v : ℕ) (before : Lists) (a b : Result ℕ Refusal) (x y : Lists)
     → RemovalOutcome m c v before a x → RemovalOutcome m c v before b y → (a ≡ b) × (x ≡ y)
 
 -- "Inserting and removing a knot": compacting keeps the curve too, and has one outcome
@@ -140,7 +139,7 @@ CompactionKeepsCurve = CompactKeepsCurve
 
 abbrev pub CompactionDetermined : Type 0
 CompactionDetermined =
-    (m : ℕ) (c before : Lists) (a b : CompactAnswer) (x y : Lists) → CompactOutcome m c before a x → CompactOutcome m c before b y → (a ≡ b) × (x ≡ y)
+    (m : ℕ) (c before : Lists) (a b : Result ℕ Refusal) (x y : Lists) → CompactOutcome m c before a x → CompactOutcome m c before b y → (a ≡ b) × (x ≡ y)
 
 -- "Inserting and removing a knot": what inserting, removing and compacting give passes the check again
 abbrev pub EditedCurvePasses : Type 0

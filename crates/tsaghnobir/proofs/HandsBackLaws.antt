@@ -1,26 +1,50 @@
--- An export over a call that hands a curve out by cases: what each arm of its match hands back.
-use mathlib.Core.Path.{◌≡◌}
-use Prim.Native.Nat.{ℕ}
+-- An export over a call that hands a curve out by cases: what it hands back, by the answer of the call.
+use mathlib.Core.Path.{◌≡◌, refl, sym, ap, ◌∙◌}
+use Prim.Native.Nat.{ℕ, ◌-◌, ◌≤◌}
+use native.Mathlib.Omega.{arith}
+use lib.ListN.{length}
+use Rattle.std.specs.Prelude.{Result, Ok, Err}
+use Rattle.refusal.specs.Answers.{number_of, number_in}
+use Rattle.refusal.specs.declared.Refusal.{Refusal}
 use Rattle.curve.specs.Lists.{Lists}
 use Rattle.curve.specs.HandingOver.{HandsOut}
+use Rattle.compaction.specs.Outcome.{CompactionComesTo, refused, compacted, knots_taken}
+use Rattle.compaction.proofs.SentenceLaws.{pass-counted}
+use Rattle.compact.specs.Outcome.{CompactOutcome}
 use Rattle.tsaghnobir.specs.Outcomes.{HandsBack}
-use Rattle.tsaghnobir.proofs.ArmLaws.{Variants, done-arm, refused-arm, placed-refused}
+use Rattle.tsaghnobir.proofs.PlaceLaws.{refused-placed}
 
-module _ {A P : Type 0} {ComesTo : ℕ → Lists → Type 0} {done : ℕ → A} {refused : ℕ → A} {count : Lists → ℕ} {counts : Lists → P} {before now : Lists} {answer : A}
-    (two : Variants done refused) (call : HandsOut ComesTo (λ d. done (count d)) refused before answer now) {held : P} where
-  pub done-back : {v : ℕ} {holds : P} → answer ≡ done v → (ComesTo 0 call.result → v ≡ count call.result → holds ≡ counts call.result)
-      → HandsBack ComesTo counts before held 0 now holds
-  done-back arm places =
-      let known = done-arm two call.number (count call.result) call.answers arm in
-      let comes : ComesTo 0 call.result = rw known.0 at call.comes_to in
-      record { result = call.result; comes_to = comes; hands = rw known.0 at call.hands; places = places comes known.1 }
+module _ {P : Type 0} {ComesTo : ℕ → Lists → Type 0} {count : Lists → ℕ} {counts : Lists → P} {before now : Lists} {held : P} where
+  pub done-back : {k : ℕ} {holds : P} (call : HandsOut ComesTo count before (Ok k) now)
+      → (ComesTo 0 call.result → k ≡ count call.result → holds ≡ counts call.result) → HandsBack ComesTo counts before held 0 now holds
+  done-back call places =
+      let comes : ComesTo 0 call.result = rw (← call.answers.0) at call.comes_to in
+      record { result = call.result; comes_to = comes; hands = rw (← call.answers.0) at call.hands; places = places comes call.answers.1 }
 
-  pub refused-back : {n : ℕ} → answer ≡ refused n → HandsBack ComesTo counts before held n now held
-  refused-back {n} arm =
-      let known = refused-arm two call.number (count call.result) call.answers arm in
+  pub refused-back : {refusal : Refusal} → HandsOut ComesTo count before (Err refusal) now → HandsBack ComesTo counts before held (number_of refusal) now held
+  refused-back {refusal} call =
       record {
         result = call.result;
-        comes_to = rw known.0 at call.comes_to;
-        hands = rw known.0 at call.hands;
-        places = placed-refused n (counts call.result) held known.1;
+        comes_to = rw (← call.answers.0) at call.comes_to;
+        hands = rw (← call.answers.0) at call.hands;
+        places = refused-placed refusal (counts call.result) held;
       }
+
+-- one place, for the very number that the call answers
+pub handed-back : {ComesTo : ℕ → Lists → Type 0} {count : Lists → ℕ} {before now : Lists} {held : ℕ} (answer : Result ℕ Refusal)
+    → HandsOut ComesTo count before answer now
+    → HandsBack ComesTo count before held (number_in answer) now (Rattle.tsaghnobir.specs.Answered.left_by answer held)
+handed-back (Ok k) call = done-back call (λ comes e. e)
+handed-back (Err refusal) call = refused-back call
+
+-- a compaction leaves no more points than there were, so its count of removed knots tells how many are left
+pub counted : {m : ℕ} {c lent d : Lists} {count : ℕ} → CompactionComesTo m c lent 0 d → count ≡ knots_taken c d
+    → ◌≡◌ {A = ℕ × ℕ} (length c.xs - count, count) (length d.xs, knots_taken c d)
+counted (refused fails e) same = absurd (fails (sym e))
+counted {m} {c} {d = d} (compacted passes pass e) same =
+    let left : length c.xs - knots_taken c d ≡ length d.xs = omega (arith, (pass-counted m c d pass).points.0) in
+    rw (same, left)
+
+-- no more knots go than there are points
+pub no_more : {m : ℕ} {c before now : Lists} {k : ℕ} → CompactOutcome m c before (Ok k) now → k ≤ length c.xs
+no_more {c} call = omega (arith, call.answers.1)

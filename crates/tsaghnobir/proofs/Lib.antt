@@ -1,8 +1,5 @@
--- Laws of an exported call's answer.
-pub mod Answers
-pub mod ArmLaws
-mod CompactLaws
-mod HandsBackLaws
+-- What the exports hand back.
+pub mod PlaceLaws
+pub mod HandsBackLaws
 pub mod ReadingLaws
-mod SpansLaws
-pub mod BurstLaws
+pub mod SpansLaws

@@ -7,10 +7,11 @@ ghost use Rattle.format.specs.Format.{form1, record_bytes};
 ghost use Rattle.record.specs.Writing.{write_number};
 ghost use Rattle.tsaghnobir.specs.Places.{placed};
 ghost use Rattle.tsaghnobir.specs.Outcomes.{RecordHandsBack, JobHandsBack};
-ghost use Rattle.tsaghnobir.specs.Answered.{failure_placed, job_placed};
+ghost use Rattle.tsaghnobir.specs.Answered.{failure_placed, record_placed, job_placed};
 
 use crate::places::put;
 use job::Job;
+use record::StoredCurve;
 use taken_field::Failure;
 
 pub fn tsb_write_record(
@@ -45,14 +46,7 @@ pub fn tsb_read_record(
         (lists out_knots.new out_xs.new out_ys.new) (degree.new, points.new, place.new) }
 {
     let answer = record::read_record(bytes, out_knots, out_xs, out_ys);
-    match answer {
-        Ok(found) => {
-            *degree = found.degree;
-            *points = found.points;
-            0
-        }
-        Err(failure) => place_failure(failure, place),
-    }
+    place_record(answer, degree, points, place)
 }
 
 pub fn tsb_read_job(
@@ -89,6 +83,26 @@ fn place_failure(failure: Failure, place: &mut usize) -> u32
     }
 }
 
+// Writes what reading a record answers through the places lent for it, and answers the number.
+fn place_record(
+    answer: Result<StoredCurve, Failure>,
+    degree: &mut u32,
+    points: &mut usize,
+    place: &mut usize,
+) -> u32
+    ensures answer { (result, degree.new, points.new, place.new)
+        ≡ record_placed answer (degree.old, points.old, place.old) }
+{
+    match answer {
+        Ok(found) => {
+            *degree = found.degree;
+            *points = found.points;
+            0
+        }
+        Err(failure) => place_failure(failure, place),
+    }
+}
+
 // Writes what reading a job answers through the places lent for it, and answers the number.
 pub(crate) fn place_job(
     answer: Result<Job, Failure>,
@@ -98,7 +112,7 @@ pub(crate) fn place_job(
     clamp_count: &mut usize,
     place: &mut usize,
 ) -> u32
-    ensures answer { (result, (degree.new, points.new, radius.new, clamp_count.new, place.new))
+    ensures answer { (result, degree.new, points.new, radius.new, clamp_count.new, place.new)
         ≡ job_placed answer (degree.old, points.old, radius.old, clamp_count.old, place.old) }
 {
     match answer {

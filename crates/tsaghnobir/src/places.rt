@@ -1,7 +1,7 @@
 // What an answer leaves at the single number that is lent for it.
 ghost use Rattle.std.specs.Prelude.{◌≡◌};
 ghost use Rattle.refusal.specs.Answers.{number_in};
-ghost use Rattle.tsaghnobir.specs.Places.{left_by};
+ghost use Rattle.tsaghnobir.specs.Answered.{left_by};
 
 use refusal::Refusal;
 
