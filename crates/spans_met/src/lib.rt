@@ -53,9 +53,19 @@ pub fn list_checked(
     if !grid::sides_ok(clamp.low_x, clamp.high_x, clamp.low_y, clamp.high_y) {
         return Err(Refusal::Rectangle);
     }
-    if lows.len().min(highs.len()) < span_walk::count_spans(curve) {
+    if lows.len().min(highs.len())
+        < span_walk::count_spans(curve.knots, curve.degree, curve.xs.len())
+    {
         return Err(Refusal::Room);
     }
     let reach = boxes::widened(clamp, radius);
-    Ok(span_listing::list_met(curve, reach, lows, highs))
+    Ok(span_listing::list_met(
+        curve.knots,
+        curve.xs,
+        curve.ys,
+        curve.degree,
+        reach,
+        lows,
+        highs,
+    ))
 }

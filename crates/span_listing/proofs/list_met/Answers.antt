@@ -19,8 +19,8 @@ use Rattle.span_listing.proofs.list_met.Goals as goal
 
 pub loop-i-init : goal.loop-i-init
 unfolding up_from keep
-loop-i-init c = let a = c.args.curve in
-    let none = sub_self a.degree in (
+loop-i-init c = let a = c.args in
+    let none = sub_self a.m in (
       rw none,
       rw none (written_none (λ k. get_or a.knots.now k 0) c.args.lows.now),
       rw none (written_none (λ k. get_or a.knots.now (k + 1) 0) c.args.highs.now),
@@ -33,10 +33,10 @@ unfolding span_count
 place-left clamp m ts xs ys i at from below count met =
     rw count (keep-room (to_check clamp m ts xs ys) (non_empty ts) (λ k h. (both _ _ h).0) m i (length xs) from below met)
 
-room : (c : Then-meets) → c.loop-i.at < span_count c.args.curve.degree c.args.curve.knots.now (length c.args.curve.xs.now)
+room : (c : Then-meets) → c.loop-i.at < span_count c.args.m c.args.knots.now (length c.args.xs.now)
 room c =
-    let turn = c.loop-i in let a = c.args.curve in
-    place-left c.args.clamp a.degree a.knots.now a.xs.now a.ys.now turn.i turn.at (omega arith) (omega arith) turn.invariant.0 (sym c.meets.ensures.answer ∙ c.if-meets.true)
+    let turn = c.loop-i in let a = c.args in
+    place-left c.args.clamp a.m a.knots.now a.xs.now a.ys.now turn.i turn.at (omega arith) (omega arith) turn.invariant.0 (sym c.meets.ensures.answer ∙ c.if-meets.true)
 
 pub bounds-lows-at : goal.bounds-lows-at
 bounds-lows-at c = omega (arith, room (goal.at.bounds-lows-at c).Then-meets)
@@ -45,14 +45,14 @@ pub bounds-highs-at : goal.bounds-highs-at
 bounds-highs-at c = omega (arith, room (goal.at.bounds-highs-at c).Then-meets)
 
 pub loop-i-preserved : goal.loop-i-preserved
-loop-i-preserved c = let a = c.args.curve in
-    let at = c.loop-i in let test = to_check c.args.clamp a.degree a.knots.now a.xs.now a.ys.now in
-    let before = listed c.args.clamp a.degree a.knots.now a.xs.now a.ys.now at.i in
-    let next = keep-up_to test a.degree at.i (omega arith) in
+loop-i-preserved c = let a = c.args in
+    let at = c.loop-i in let test = to_check c.args.clamp a.m a.knots.now a.xs.now a.ys.now in
+    let before = listed c.args.clamp a.m a.knots.now a.xs.now a.ys.now at.i in
+    let next = keep-up_to test a.m at.i (omega arith) in
     elim c.if-meets.branch [
       | then-meets w ↦
           let met : test at.i ≡ true = sym c.meets.ensures.answer ∙ w.if-meets.true in
-          let fits = place-left c.args.clamp a.degree a.knots.now a.xs.now a.ys.now at.i at.at (omega arith) (omega arith) at.invariant.0 met in (
+          let fits = place-left c.args.clamp a.m a.knots.now a.xs.now a.ys.now at.i at.at (omega arith) (omega arith) at.invariant.0 met in (
             rw (next, met, length-append before (at.i ∷ [])) (omega (arith, w.at-is)),
             rw (next, met) (written_next at.invariant.1 at.i at.at _ w.lows-is at.invariant.0 (omega arith)),
             rw (next, met) (written_next at.invariant.2 at.i at.at _ w.highs-is at.invariant.0 (omega arith)),
@@ -67,9 +67,9 @@ loop-i-preserved c = let a = c.args.curve in
 
 pub returns-clause-count : goal.returns-clause-count
 unfolding spans_met
-returns-clause-count c = let all : c.loop-i.i ≡ length c.args.curve.xs.now = omega arith in rw (← all) c.loop-i.invariant.0
+returns-clause-count c = let all : c.loop-i.i ≡ length c.args.xs.now = omega arith in rw (← all) c.loop-i.invariant.0
 
 pub returns-clause-result : goal.returns-clause-result
 unfolding spans_met low_knots high_knots
 returns-clause-result c =
-    let at = c.loop-i in let all : at.i ≡ length c.args.curve.xs.now = omega arith in rw (← all) (span-lists-same at.invariant.1.holds at.invariant.2.holds)
+    let at = c.loop-i in let all : at.i ≡ length c.args.xs.now = omega arith in rw (← all) (span-lists-same at.invariant.1.holds at.invariant.2.holds)

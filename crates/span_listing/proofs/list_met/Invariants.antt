@@ -15,8 +15,7 @@ listed clamp m ts xs ys i = keep (to_check clamp m ts xs ys) (up_from m (i - m))
 
 abbrev pub invariant-loop-i : goal.invariant-loop-i
 invariant-loop-i l =
-    let c = l.curve in
-    let spans = listed l.clamp c.degree c.knots.now c.xs.now c.ys.now l.i in
+    let spans = listed l.clamp l.m l.knots l.xs l.ys l.i in
     (l.at ≡ length spans)
-    × Written (λ k. get_or c.knots.now k 0) spans l.initial.lows l.lows
-    × Written (λ k. get_or c.knots.now (k + 1) 0) spans l.initial.highs l.highs
+    × Written (λ k. get_or l.knots k 0) spans l.initial.lows l.lows
+    × Written (λ k. get_or l.knots (k + 1) 0) spans l.initial.highs l.highs

@@ -7,4 +7,4 @@ use Rattle.span_walk.proofs.count_spans.Given as goal
 
 abbrev pub invariant-loop-k : goal.invariant-loop-k
 invariant-loop-k l =
-    (l.so_far ≤ l.k) × (l.so_far ≡ length (keep (non_empty l.knots) (up_from l.curve.degree (l.k - l.curve.degree))))
+    (l.so_far ≤ l.k) × (l.so_far ≡ length (keep (non_empty l.knots) (up_from l.m (l.k - l.m))))
