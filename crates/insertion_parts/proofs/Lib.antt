@@ -1,2 +1,3 @@
 -- Laws of the parts that insert a knot.
 pub mod OccurrenceLaws
+pub mod PositionLaws

@@ -1,7 +1,8 @@
 // The parts of inserting a knot ("Inserting and removing a knot"), on slices, for a curve that has passed the check.
 #![tactic(auto)]
 
-ghost use Rattle.std.specs.Prelude.{true, ◌≡◌, ◌+◌, ◌≤◌, ◌<◌, ◌^◌, leb, pos, nat_abs, ◌+ℤ◌, ◌*ℤ◌, length, get_or};
+ghost use Rattle.std.specs.List.{position};
+ghost use Rattle.std.specs.Prelude.{nat_lt, true, ◌≡◌, ◌+◌, ◌≤◌, ◌<◌, ◌^◌, leb, pos, nat_abs, ◌+ℤ◌, ◌*ℤ◌, length, get_or};
 ghost use Rattle.std.specs.Int.Signed.{quot_z};
 ghost use Rattle.grid.specs.Rows.{knot_order_ok, occurrences};
 ghost use Rattle.lent.specs.Lent.{over};
@@ -21,7 +22,7 @@ pub fn is_multiple(sum: i64, d: u16) -> bool
     requires { 0 < d }
     ensures answer { result ≡ divides (pos d) sum }
 {
-    sum % (d as i64) == 0
+    sum % i64::from(d) == 0
 }
 
 // sum / d, toward zero.
@@ -30,21 +31,21 @@ pub fn quotient(sum: i64, d: u16) -> i32
     requires d_bound { nat_abs (quot_z sum (pos d)) < 2 ^ 31 }
     ensures answer { result ≡ quot_z sum (pos d) }
 {
-    (sum / (d as i64)) as i32
+    (sum / i64::from(d)) as i32
+}
+
+// The place of the first knot above v.
+fn first_above(knots: &[u16], v: u16) -> Option<usize>
+    ensures answer { result ≡ position (λ t. nat_lt v t) knots.now }
+{
+    knots.iter().position(|knot| v < *knot)
 }
 
 // The number of knots before the first one above v.
 pub fn knots_up_to(knots: &[u16], v: u16) -> usize
     ensures answer { result ≡ knots_up_to v knots.now }
 {
-    let mut i = 0;
-    while i < knots.len() {
-        if v < knots[i] {
-            return i;
-        }
-        i += 1;
-    }
-    i
+    first_above(knots, v).unwrap_or(knots.len())
 }
 
 // Whether v stands so many times or more, where `at` knots are up to v. The knots never fall, so that one knot tells.
@@ -92,12 +93,10 @@ pub fn whole_points(m: usize, knots: &[u16], ps: &[i32], v: u16, i: usize) -> bo
     requires i_value { i ≡ insertion_span knots.now v }
     ensures answer { result ≡ whole_points m knots.now ps.now v }
 {
-    let mut j = i + 1 - m;
-    while j <= i {
+    for j in i + 1 - m..i + 1 {
         if !is_whole_at(m, knots, ps, v, j) {
             return false;
         }
-        j += 1;
     }
     true
 }
@@ -120,12 +119,10 @@ pub fn insert_points(m: usize, knots: &[u16], ps: &[i32], v: u16, i: usize, out:
 {
     let front = i + 1 - m;
     copying::copy_into(&ps[..front], out);
-    let mut j = front;
-    while j <= i {
-        out[j] = quotient_at(m, knots, ps, v, j);
-        j += 1;
-    }
     let behind = i + 1;
+    for j in front..behind {
+        out[j] = quotient_at(m, knots, ps, v, j);
+    }
     copying::copy_into(&ps[behind - 1..], &mut out[behind..]);
 }
 

@@ -75,6 +75,9 @@ quotients-stored c =
     let l = c.loop-j in let ends : l.j ≡ c.args.i + 1 = omega (arith, l.invariant.1, c.loop-j-test.false) in
     rw ends at (stored-since front-stored l.invariant.0 l.invariant.2)
 
+pub overflow_add-behind : goal.overflow_add-behind
+overflow_add-behind c = omega (arith, within (goal.at.overflow_add-behind c).Start)
+
 pub slice_bounds-copy_into-count : goal.slice_bounds-copy_into-count
 slice_bounds-copy_into-count c = omega (arith, within (goal.at.slice_bounds-copy_into-count c).Start)
 

@@ -7,6 +7,3 @@ use Rattle.insertion_parts.proofs.insert_points.Given as goal
 abbrev pub invariant-loop-j : goal.invariant-loop-j
 invariant-loop-j l =
     (l.i + 1 - l.m ≤ l.j) × (l.j ≤ l.i + 1) × Stored (inserted_points l.m l.knots l.ps l.v) l.initial.out l.out l.j
-
-abbrev pub decreases-loop-j : goal.decreases-loop-j
-decreases-loop-j l = l.i + 1 - l.j

@@ -9,6 +9,6 @@ use Rattle.insertion_parts.proofs.is_multiple.Goals as goal
 pub returns : goal.returns
 unfolding divides
 returns c = record {
-  answer = rw (to_z-of_z w64 c.args.sum c.ranges.sum, read_short c.args.d c.ranges.d.fits)
+  answer = rw (to_z-of_z w64 c.args.sum c.ranges.sum, c.from.ensures, read_short c.args.d c.ranges.d.fits)
       (remainder-zero c.args.sum c.args.d c.requires c.ranges.d.fits);
 }

@@ -8,8 +8,8 @@ use Rattle.insertion_parts.proofs.whole_points.Goals as goal
 pub overflow_add-j : goal.overflow_add-j
 overflow_add-j c = let a = c.args in omega (arith, span-most a.m a.knots.now a.ps.now a.v c.requires.insertable)
 
-pub overflow_sub-j : goal.overflow_sub-j
-overflow_sub-j c = let a = c.args in omega (arith, span-least a.m a.knots.now a.ps.now a.v c.requires.insertable)
+pub overflow_step-j : goal.overflow_step-j
+overflow_step-j c = let a = c.args in omega (arith, span-least a.m a.knots.now a.ps.now a.v c.requires.insertable)
 
 pub loop-j-init : goal.loop-j-init
 loop-j-init c = let a = c.args in
@@ -27,8 +27,8 @@ returns-then-not-is_whole_at c = record {
       (sym c.is_whole_at.ensures.answer ∙ c.if-not-is_whole_at.true);
 }
 
-pub overflow_add-j-in-loop-j : goal.overflow_add-j-in-loop-j
-overflow_add-j-in-loop-j c = let a = c.args in
+pub overflow_add-j-end : goal.overflow_add-j-end
+overflow_add-j-end c = let a = c.args in
     omega (arith, span-most a.m a.knots.now a.ps.now a.v c.requires.insertable)
 
 pub loop-j-preserved : goal.loop-j-preserved

@@ -7,6 +7,3 @@ use Rattle.insertion_parts.proofs.whole_points.Given as goal
 abbrev pub invariant-loop-j : goal.invariant-loop-j
 invariant-loop-j l =
     (l.i < l.j + l.m) × (l.j ≤ l.i + 1) × (whole_points l.m l.knots l.ps l.v ≡ whole_from l.m l.knots l.ps l.v (l.i + 1 - l.j) l.j)
-
-abbrev pub decreases-loop-j : goal.decreases-loop-j
-decreases-loop-j l = l.i + 1 - l.j
