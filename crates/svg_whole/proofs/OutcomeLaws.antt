@@ -8,6 +8,7 @@ use Prim.Native.Nat.{ℕ, suc, ◌≤◌, ◌<◌}
 use native.Mathlib.Omega.{arith}
 use lib.Dec.{eqb-suc-zero}
 use lib.ListN.{length}
+use Rattle.refusal.proofs.AnswerLaws.{answers-value}
 use Rattle.refusal.specs.Chain.{row}
 use Rattle.refusal.specs.Judging.{unless}
 use Rattle.refusal.specs.Numbers.{accepted, full_refused, not_whole_refused}
@@ -76,9 +77,9 @@ room-of-accepted m c out e =
 pub success-writes-text : SuccessWritesText
 success-writes-text m c before answer now so e =
     let text = svg_text m c in (
-      so.answers ∙ rw e,
+      answers-value _ _ answer so.answers e,
       subst (λ (l : List ℕ). ResultThenRest text before l) (sym (so.hands ∙ rw e)) (success-puts-result ℕ text before (room-of-accepted m c before e)),
     )
 
 pub refusal-writes-nothing : RefusalWritesNothing
-refusal-writes-nothing m c before answer now n so e = (so.answers ∙ rw (e, eqb-suc-zero n), so.hands ∙ rw (e, eqb-suc-zero n))
+refusal-writes-nothing m c before answer now n so e = (so.answers.0 ∙ e, so.hands ∙ rw (e, eqb-suc-zero n))

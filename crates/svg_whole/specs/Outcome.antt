@@ -1,6 +1,8 @@
 -- What writing path data answers and leaves in the lent list, in sentences (headings "Out to SVG" and "Numbers of refusal").
-use Rattle.std.specs.Prelude.{List, [], ◌∷◌, ◌⊎◌, ◌≡◌, ℕ, suc, ◌<◌, length}
+use Rattle.std.specs.Prelude.{List, [], ◌∷◌, ◌⊎◌, Result, Ok, ◌≡◌, ℕ, suc, ◌<◌, length}
+use Rattle.refusal.specs.Answers.{number_in}
 use Rattle.refusal.specs.Chain.{Row, row, AnswersFirst}
+use Rattle.refusal.specs.declared.Refusal.{Refusal}
 use Rattle.lent.specs.Sentences.{ResultThenRest}
 use Rattle.curve.specs.Lists.{Lists}
 use Rattle.grid.specs.Limits.{points_most}
@@ -10,8 +12,6 @@ use Rattle.clamping.specs.Clamping.{clamped}
 use Rattle.clamping.specs.Sentences.{ClampNotWhole}
 use Rattle.cutting.specs.Cutting.{cuts}
 use Rattle.cut_whole.specs.Sentences.{FirstFailing}
-use Rattle.svg_out.specs.declared.SvgAnswer.{SvgAnswer}
-use Rattle.svg_out.specs.declared.SvgAnswer.TheVariants.{Written, Refused}
 use Rattle.svg_out.specs.Svg.{svg_text, svg_number, SvgOutcome}
 
 -- the first insertion into the clamped copy that fails: the copy is full by then, or it is not and a new point is not whole
@@ -38,11 +38,11 @@ SvgAnswersFirst = (m : ℕ) (c : Lists) (out : List ℕ) → AnswersFirst (svg_n
 -- where nothing is refused the answer is how long the text is, and the list holds it in front and then what it held
 abbrev pub SuccessWritesText : Type 0
 SuccessWritesText =
-    (m : ℕ) (c : Lists) (before : List ℕ) (answer : SvgAnswer) (now : List ℕ) → SvgOutcome m c before answer now → svg_number m c before ≡ 0
-    → (answer ≡ Written (length (svg_text m c))) × ResultThenRest (svg_text m c) before now
+    (m : ℕ) (c : Lists) (before : List ℕ) (answer : Result ℕ Refusal) (now : List ℕ) → SvgOutcome m c before answer now → svg_number m c before ≡ 0
+    → (answer ≡ Ok (length (svg_text m c))) × ResultThenRest (svg_text m c) before now
 
 -- a refusal answers its number and nothing else, and leaves the list as it was
 abbrev pub RefusalWritesNothing : Type 0
 RefusalWritesNothing =
-    (m : ℕ) (c : Lists) (before : List ℕ) (answer : SvgAnswer) (now : List ℕ) (n : ℕ) → SvgOutcome m c before answer now → svg_number m c before ≡ suc n
-    → (answer ≡ Refused (suc n)) × (now ≡ before)
+    (m : ℕ) (c : Lists) (before : List ℕ) (answer : Result ℕ Refusal) (now : List ℕ) (n : ℕ) → SvgOutcome m c before answer now → svg_number m c before ≡ suc n
+    → (number_in answer ≡ suc n) × (now ≡ before)
