@@ -3,63 +3,40 @@
 #![tactic(auto)]
 
 use carrying::Axis;
-use insert_knot::InsertAnswer;
 use point_at::PointAnswer;
+use refusal::Refusal;
 
-// Writes a text. What cannot be written is lost.
-fn text(out: &impl Print, t: &[u8]) {
-    let _ = out.write_all(t);
-}
-
-// A word and a number.
-fn print_number(out: &impl Print, what: &[u8], n: u64) {
-    text(out, what);
-    let _ = print!(out; "{n}");
-}
-
-fn spaced(out: &impl Print, n: u64) {
-    print_number(out, b" ", n);
-}
-
+// The 64 bits of a coordinate. What cannot be written is lost, here and below.
 fn bits(out: &impl Print, x: f64) {
     if x.is_nan() {
-        text(out, b"nan");
+        let _ = print!(out; "nan");
         return;
     }
     let bits = x.to_bits();
     let _ = print!(out; "{bits:016x}");
 }
 
-// A coordinate of the worked curves: none is below zero.
-fn whole(out: &impl Print, z: i32) {
-    if z < 0 {
-        text(out, b" below 0");
-        return;
-    }
-    spaced(out, z as u64);
-}
-
+// Coordinates of the worked curves.
 fn coordinates(out: &impl Print, zs: &[i32]) {
-    let mut k = 0;
-    while k < zs.len() {
-        whole(out, zs[k]);
-        k += 1;
+    for z in zs {
+        let _ = print!(out; " {z}");
     }
 }
 
 fn place(out: &impl Print, x: f64, y: f64) {
-    text(out, b" x ");
+    let _ = print!(out; " x ");
     bits(out, x);
-    text(out, b" y ");
+    let _ = print!(out; " y ");
     bits(out, y);
 }
 
 // An enum answer with a struct inside.
 fn point(out: &impl Print, degree: u32, knots: &[u16], xs: &[i32], ys: &[i32], t: u32) {
-    let answer = point_at::point_at(degree, knots, xs, ys, t);
-    match answer {
+    match point_at::point_at(degree, knots, xs, ys, t) {
         PointAnswer::At(p) => place(out, p.x, p.y),
-        PointAnswer::Refused(n) => print_number(out, b" refused ", n as u64),
+        PointAnswer::Refused(number) => {
+            let _ = print!(out; " refused {number}");
+        }
     }
 }
 
@@ -76,13 +53,19 @@ fn carried<'a>(
     let mut refusal = 99;
     let part = carrying::carrying(degree, knots, xs, ys, t, axis, &mut refusal);
     coordinates(out, part);
-    print_number(out, b", refusal ", refusal as u64);
+    let _ = print!(out; ", refusal {refusal}");
 }
 
-fn answer(out: &impl Print, a: InsertAnswer) {
-    match a {
-        InsertAnswer::Inserted(points) => print_number(out, b" points ", points as u64),
-        InsertAnswer::Refused(n) => print_number(out, b" refused ", n as u64),
+// A Result: the number of points, or the refusal with its number.
+fn answer(out: &impl Print, answer: Result<usize, Refusal>) {
+    match answer {
+        Ok(points) => {
+            let _ = print!(out; " points {points}");
+        }
+        Err(refusal) => {
+            let number = u32::from(refusal);
+            let _ = print!(out; " refused {number}");
+        }
     }
 }
 
@@ -104,29 +87,29 @@ fn inserted(out: &impl Print, degree: u32, knots: &[u16], xs: &[i32], ys: &[i32]
             &mut new_ys,
         ),
     );
-    text(out, b", x");
+    let _ = print!(out; ", x");
     coordinates(out, &new_xs);
 }
 
 fn curve_a(out: &impl Print, knots: &[u16], xs: &[i32], ys: &[i32]) {
-    text(out, b"A at 1:");
+    let _ = print!(out; "A at 1:");
     point(out, 3, knots, xs, ys, 1);
-    text(out, b"\nA at 5:");
+    let _ = print!(out; "\nA at 5:");
     point(out, 3, knots, xs, ys, 5);
 }
 
 fn curve_b<'a>(out: &impl Print, knots: &[u16], xs: &'a [i32], ys: &'a [i32]) {
-    text(out, b"\nB at 4, carrying x:");
+    let _ = print!(out; "\nB at 4, carrying x:");
     carried(out, 2, knots, xs, ys, 4, Axis::X);
-    text(out, b"\nB at 2, carrying y:");
+    let _ = print!(out; "\nB at 2, carrying y:");
     carried(out, 2, knots, xs, ys, 2, Axis::Y);
-    text(out, b"\nB at 5, carrying y:");
+    let _ = print!(out; "\nB at 5, carrying y:");
     carried(out, 2, knots, xs, ys, 5, Axis::Y);
-    text(out, b"\n1 into B:");
+    let _ = print!(out; "\n1 into B:");
     inserted(out, 2, knots, xs, ys, 1);
-    text(out, b"\n4 into B:");
+    let _ = print!(out; "\n4 into B:");
     inserted(out, 2, knots, xs, ys, 4);
-    text(out, b"\n");
+    let _ = print!(out; "\n");
 }
 
 fn main(rt: HostRuntime) {
