@@ -1,53 +1,64 @@
 // Clamping a curve that has passed the check: the points that carry some span, with their knots, are a part of each list, and that part is clamped.
-ghost use Rattle.std.specs.Prelude.{◌≡◌, ◌-◌, ◌≤◌, get_or};
+ghost use Rattle.std.specs.Prelude.{◌≡◌, ◌-◌, ◌≤◌, ◌<◌, length, get_or};
 ghost use Rattle.curve.specs.Lists.{lists};
 ghost use Rattle.checked.specs.Along.{lists_of};
 ghost use Rattle.span.specs.Span.{span_of};
-ghost use Rattle.clamping.specs.Clamping.{carrying_part};
-ghost use Rattle.clamp_rows.specs.Near.{Carries};
+ghost use Rattle.clamping.specs.Clamping.{first_span, last_span, carrying_part};
 ghost use Rattle.clamp_ends.specs.Answer.{ClampOutcome};
 
-use crate::judging::whole_ok;
+use crate::judging::both_whole;
 use crate::writing::{write_knots, write_points};
 use checked::Curve;
+use clamp_rows::Line;
 use curve::Lent;
 use refusal::Refusal;
 
-// A curve whose every point carries a span.
-#[derive(Clone, Copy)]
-pub(crate) struct Part<'a> {
-    pub degree: usize,
-    pub knots: &'a [u16],
-    pub xs: &'a [i32],
-    pub ys: &'a [i32],
-    pub ghost x: { Carries degree knots.now xs.now },
-    pub ghost y: { Carries degree knots.now ys.now },
-}
-
-// The span that holds the value of one knot, for a curve with so many points.
-fn span_at(m: usize, knots: &[u16], count: usize, knot: usize) -> usize
-    requires { 1 ≤ count }
-    ensures answer { result ≡ span_of knots.now m (count - 1) (get_or knots.now knot 0) 1 }
+// The span that holds the value of one knot.
+fn span_at(curve: Curve<'_>, knot: usize) -> usize
+    ensures answer { result ≡ span_of curve.entry.knots.now curve.entry.degree (length curve.entry.xs.now - 1)
+        (get_or curve.entry.knots.now knot 0) 1 }
 {
-    span::span_of(knots, m, count - 1, span::knot_at(knots, knot))
+    let last = curve.xs.len() - 1;
+    span::span_of(
+        curve.knots,
+        curve.degree,
+        last,
+        span::knot_at(curve.knots, knot),
+    )
 }
 
-// The points of a curve that carry some span, and their knots.
-fn carrying_part<'a>(curve: Curve<'a>) -> Part<'a>
-    ensures degree { result.degree ≡ curve.entry.degree }
-    ensures answer { lists result.knots.now result.xs.now result.ys.now
+// The first span of the domain that is not empty, and the last.
+fn end_spans(curve: Curve<'_>) -> (usize, usize)
+    ensures first { result.0 ≡ first_span curve.entry.degree (lists_of curve.entry) }
+    ensures last { result.1 ≡ last_span curve.entry.degree (lists_of curve.entry) }
+    ensures order { (curve.entry.degree ≤ result.0) × (result.0 ≤ result.1) × (result.1 < length curve.entry.xs.now) }
+{
+    (span_at(curve, curve.degree), span_at(curve, curve.xs.len()))
+}
+
+// Both axes of the points that carry some span, on their knots.
+fn carrying_lines<'a>(curve: Curve<'a>) -> (Line<'a>, Line<'a>)
+    ensures degree { (result.0.degree ≡ curve.entry.degree) × (result.1.degree ≡ curve.entry.degree) }
+    ensures knots { result.1.knots.now ≡ result.0.knots.now }
+    ensures answer { lists result.0.knots.now result.0.points.now result.1.points.now
         ≡ carrying_part curve.entry.degree (lists_of curve.entry) }
 {
-    let m = curve.degree;
-    let count = curve.xs.len();
-    let first = span_at(m, curve.knots, count, m) - m;
-    let past = span_at(m, curve.knots, count, count) + 1;
-    Part {
-        degree: m,
-        knots: &curve.knots[first..past + m + 1],
-        xs: &curve.xs[first..past],
-        ys: &curve.ys[first..past],
-    }
+    let degree = curve.degree;
+    let (first, last) = end_spans(curve);
+    let from = first - degree;
+    let past = last + 1;
+    let knots = &curve.knots[from..past + degree + 1];
+    let x = Line {
+        degree,
+        knots,
+        points: &curve.xs[from..past],
+    };
+    let y = Line {
+        degree,
+        knots,
+        points: &curve.ys[from..past],
+    };
+    (x, y)
 }
 
 // Clamps a curve, or answers 11 or 15 and leaves the lent lists as they were found.
@@ -56,14 +67,14 @@ pub fn clamp_checked(curve: Curve<'_>, into: Lent<'_>) -> Result<usize, Refusal>
         (lists into.entry.knots.now into.entry.xs.now into.entry.ys.now) result
         (lists into.exit.0.now into.exit.1.0.now into.exit.1.1.0.now) }
 {
-    let part = carrying_part(curve);
-    if !whole_ok(part) {
+    let (x, y) = carrying_lines(curve);
+    if !both_whole(x, y) {
         return Err(Refusal::NotWhole);
     }
-    let count = part.xs.len();
-    into.room(part.knots.len(), count, part.ys.len())?;
-    write_knots(part.degree, part.knots, count, into.knots);
-    write_points(part.degree, part.knots, part.xs, into.xs);
-    write_points(part.degree, part.knots, part.ys, into.ys);
+    let count = x.points.len();
+    into.room(x.knots.len(), count, y.points.len())?;
+    write_knots(x, into.knots);
+    write_points(x, into.xs);
+    write_points(y, into.ys);
     Ok(count)
 }

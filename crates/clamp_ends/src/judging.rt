@@ -2,9 +2,9 @@
 ghost use Rattle.std.specs.Prelude.{◌&&◌, ◌≡◌, ◌-◌, ◌≤◌, length};
 ghost use Rattle.clamping.specs.Clamping.{clamped_number, all_whole};
 ghost use Rattle.clamping.specs.EndRows.{end_number};
-ghost use Rattle.clamp_rows.specs.Near.{Carries, as_end, Near};
+ghost use Rattle.clamp_rows.specs.Near.{as_end, Near};
 
-use crate::carrying::Part;
+use clamp_rows::Line;
 
 // The new points at an end.
 fn end_whole(end: clamp_rows::NearEnd, m: usize) -> bool
@@ -17,19 +17,17 @@ fn end_whole(end: clamp_rows::NearEnd, m: usize) -> bool
 }
 
 // Both ends of one axis.
-fn axis_whole(m: usize, knots: &[u16], ps: &[i32]) -> bool
-    requires { Carries m knots.now ps.now }
-    ensures answer { result ≡ all_whole (clamped_number m knots.now ps.now) (length ps.now) }
+fn axis_whole(line: Line<'_>) -> bool
+    ensures answer { result ≡ all_whole (clamped_number line.entry.degree line.entry.knots.now line.entry.points.now) (length line.entry.points.now) }
 {
-    m < 2
-        || (end_whole(clamp_rows::start_of(m, knots, ps), m)
-            && end_whole(clamp_rows::finish_of(m, knots, ps), m))
+    let m = line.degree;
+    m < 2 || (end_whole(clamp_rows::start_of(line), m) && end_whole(clamp_rows::finish_of(line), m))
 }
 
 // Both axes.
-pub(crate) fn whole_ok(part: Part<'_>) -> bool
-    ensures answer { result ≡ (all_whole (clamped_number part.entry.degree part.entry.knots.now part.entry.xs.now) (length part.entry.xs.now)
-        && all_whole (clamped_number part.entry.degree part.entry.knots.now part.entry.ys.now) (length part.entry.ys.now)) }
+pub(crate) fn both_whole(x: Line<'_>, y: Line<'_>) -> bool
+    ensures answer { result ≡ (all_whole (clamped_number x.entry.degree x.entry.knots.now x.entry.points.now) (length x.entry.points.now)
+        && all_whole (clamped_number y.entry.degree y.entry.knots.now y.entry.points.now) (length y.entry.points.now)) }
 {
-    axis_whole(part.degree, part.knots, part.xs) && axis_whole(part.degree, part.knots, part.ys)
+    axis_whole(x) && axis_whole(y)
 }

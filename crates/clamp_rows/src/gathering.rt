@@ -15,12 +15,24 @@ fn gap(knots: &[u16], low: usize, high: usize) -> u64
     u64::from(knots[high] - knots[low])
 }
 
-// The start.
-pub fn start_of(m: usize, knots: &[u16], ps: &[i32]) -> NearEnd
-    requires { Carries m knots.now ps.now × (2 ≤ m) }
-    ensures gathered { Gathered result (start_of m knots.now ps.now) }
+// One axis of a curve whose every point carries a span.
+#[derive(Clone, Copy)]
+pub struct Line<'a> {
+    pub degree: usize,
+    pub knots: &'a [u16],
+    pub points: &'a [i32],
+    pub ghost carries: { Carries degree knots.now points.now },
+}
+
+// Its start.
+pub fn start_of(line: Line<'_>) -> NearEnd
+    requires { 2 ≤ line.degree }
+    ensures gathered { Gathered result (start_of line.entry.degree line.entry.knots.now line.entry.points.now) }
     ensures near { Near result }
 {
+    let m = line.degree;
+    let knots = line.knots;
+    let ps = line.points;
     NearEnd {
         inside: [gap(knots, m, m + 1), gap(knots, m, m + 2)],
         outside: [gap(knots, m - 1, m), gap(knots, m - 2, m)],
@@ -28,12 +40,14 @@ pub fn start_of(m: usize, knots: &[u16], ps: &[i32]) -> NearEnd
     }
 }
 
-// The end.
-pub fn finish_of(m: usize, knots: &[u16], ps: &[i32]) -> NearEnd
-    requires { Carries m knots.now ps.now × (2 ≤ m) }
-    ensures gathered { Gathered result (finish_of knots.now ps.now) }
+// Its end.
+pub fn finish_of(line: Line<'_>) -> NearEnd
+    requires { 2 ≤ line.degree }
+    ensures gathered { Gathered result (finish_of line.entry.knots.now line.entry.points.now) }
     ensures near { Near result }
 {
+    let knots = line.knots;
+    let ps = line.points;
     let end = ps.len();
     NearEnd {
         inside: [gap(knots, end - 1, end), gap(knots, end - 2, end)],

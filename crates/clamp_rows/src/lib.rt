@@ -11,7 +11,7 @@ ghost use Rattle.clamping.specs.EndRows.{mean, end_row, end_number};
 ghost use Rattle.clamp_rows.specs.Near.{Small, Sized, as_end, Near};
 
 use clamping::Share;
-pub use gathering::{finish_of, start_of};
+pub use gathering::{Line, finish_of, start_of};
 
 // What is read of an end: how far the first two knots inside and outside lie from the end of the domain, and the first three points.
 #[derive(Clone, Copy, PartialEq, Eq, Debug)]

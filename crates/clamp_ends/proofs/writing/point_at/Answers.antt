@@ -13,7 +13,7 @@ returns-then-j-m c = record {
   answer = let a = c.args in
       let start = c.start_of in to_z-of_z {w = w32} (record { sfits = c.value.type_inv }) ∙ c.value.ensures.answer
       ∙ ap whole_of (c.number.ensures.answer
-      ∙ start-number a.m a.knots.now a.ps.now start.result start.ensures.gathered c.requires.0.degree a.j c.if-j-m.true);
+      ∙ start-number a.line.degree a.line.knots.now a.line.points.now start.result start.ensures.gathered a.line.carries.degree a.j c.if-j-m.true);
 }
 
 pub returns-then-k-m : goal.returns-then-k-m
@@ -21,12 +21,12 @@ returns-then-k-m c = record {
   answer = let a = c.args in
       let finish = c.finish_of in to_z-of_z {w = w32} (record { sfits = c.value-then-k-m.type_inv }) ∙ c.value-then-k-m.ensures.answer
       ∙ ap whole_of (c.number-then-k-m.ensures.answer
-      ∙ finish-number a.m a.knots.now a.ps.now finish.result finish.ensures.gathered c.requires.0.degree a.j c.if-j-m.false c.if-k-m.true);
+      ∙ finish-number a.line.degree a.line.knots.now a.line.points.now finish.result finish.ensures.gathered a.line.carries.degree a.j c.if-j-m.false c.if-k-m.true);
 }
 
 pub returns : goal.returns
 returns c = record {
   answer = let a = c.args in
-      to_z-of_z {w = w32} (sfits_of c.result-1.given) ∙ sym (point-value (point_at a.ps.now a.j))
-      ∙ ap whole_of (sym (between a.m a.knots.now a.ps.now a.j c.requires.1 c.if-j-m.false c.if-k-m.false));
+      to_z-of_z {w = w32} (sfits_of c.result-1.given) ∙ sym (point-value (point_at a.line.points.now a.j))
+      ∙ ap whole_of (sym (between a.line.degree a.line.knots.now a.line.points.now a.j c.requires c.if-j-m.false c.if-k-m.false));
 }

@@ -6,4 +6,4 @@ use Rattle.clamp_ends.proofs.MendLaws.{Mended}
 use Rattle.clamp_ends.proofs.writing.write_points.Given as goal
 
 abbrev pub invariant-loop-k : goal.invariant-loop-k
-invariant-loop-k l = Mended (pos 0) (clamped_points l.m l.knots l.ps) l.initial.out l.out (l.m - 1) l.k
+invariant-loop-k l = Mended (pos 0) (clamped_points l.line.degree l.line.knots.now l.line.points.now) l.initial.out l.out (l.line.degree - 1) l.k

@@ -9,10 +9,10 @@ use Rattle.clamp_rows.proofs.GatheringLaws.{gathered-near, point-widened}
 use Rattle.clamp_rows.proofs.gathering.finish_of.Goals as goal
 
 pub returns : goal.returns
-returns c = let whole = let ts = c.args.knots.now in
-    let ps = c.args.ps.now in
+returns c = let whole = let ts = c.args.line.knots.now in
+    let ps = c.args.line.points.now in
     let n = length ps in
-    let h = c.requires.0 in
+    let h = c.args.line.carries in
     gathered-near (finish_of ts ps) _ _ _ _ _ _ _
     c.gap.ensures.answer
     c.gap-2.ensures.answer

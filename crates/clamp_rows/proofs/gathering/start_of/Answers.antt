@@ -9,10 +9,10 @@ use Rattle.clamp_rows.proofs.GatheringLaws.{gathered-near, point-widened}
 use Rattle.clamp_rows.proofs.gathering.start_of.Goals as goal
 
 pub returns : goal.returns
-returns c = let whole = let m = c.args.m in
-    let ts = c.args.knots.now in
-    let ps = c.args.ps.now in
-    let h = c.requires.0 in
+returns c = let whole = let m = c.args.line.degree in
+    let ts = c.args.line.knots.now in
+    let ps = c.args.line.points.now in
+    let h = c.args.line.carries in
     gathered-near (start_of m ts ps) _ _ _ _ _ _ _
     c.gap.ensures.answer
     c.gap-2.ensures.answer
@@ -22,6 +22,6 @@ returns c = let whole = let m = c.args.m in
     (point-widened ps 1 1 c.from-2.result (h.range 1) refl c.from-2.ensures)
     (point-widened ps 2 2 c.from-3.result (h.range 2) refl c.from-3.ensures)
     (omega (arith, h.opens))
-    (omega (arith, h.opens, h.rising (m + 1) (m + 2) (omega arith) (omega (arith, h.count, h.enough, c.requires.1))))
+    (omega (arith, h.opens, h.rising (m + 1) (m + 2) (omega arith) (omega (arith, h.count, h.enough, c.requires))))
     (start-near ts ps knot_most h.largest m)
     (λ k. h.range k) in record { gathered = whole.0; near = whole.1 }
