@@ -58,3 +58,6 @@ module _ (received : ℕ) (burst work : List ℕ) where
   pub counted-all : received ≤ length work → length burst ≤ length work - received → received + length burst ≡ received_with received burst work
   unfolding received_with
   counted-all inside fits = omega arith
+
+-- what the code does in its parts
+pub ruleset kept_and_counted = (kept_full, kept-behind, counted-full, counted-over, counted-all)

@@ -6,6 +6,7 @@ ghost use Rattle.lent.specs.Lent.{over};
 ghost use Rattle.keeping.specs.Kept.{kept_with, received_with};
 
 // Keeps the burst behind the bytes received, as far as it fits, and counts it.
+#[tactic(auto, using(crate::proofs::KeptLaws::kept_and_counted))]
 pub fn keep(received: usize, burst: &[u8], work: &mut [u8]) -> usize
     ensures count { result ≡ received_with received burst.now work.old }
     ensures result { work.new ≡ over (kept_with received burst.now work.old) work.old }
