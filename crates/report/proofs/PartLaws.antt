@@ -2,15 +2,43 @@
 use mathlib.Core.Bool.{Bool, true, false}
 use mathlib.Core.List.{List, []}
 use mathlib.Core.Path.{◌≡◌, refl}
-use Prim.Native.Nat.{ℕ, zero, suc, ◌+◌, ◌-◌, ◌<◌}
+use Prim.Native.Nat.{ℕ, zero, suc, ◌+◌, ◌-◌, ◌≤◌, ◌<◌}
+use borrow.Author.Tests.{le-leb, lt-leb, ne_eqb}
 use native.Mathlib.Omega.{arith}
 use lib.IntN.{ℤ}
-use lib.ListN.{length}
+use lib.ListN.{length, take}
 use Rattle.curve.specs.Lists.{Lists}
 use Rattle.curve.specs.HandingOver.{enough}
 use Rattle.curve.proofs.RoomLaws.{enough-each}
-use Rattle.clamp_lines.specs.ClampPart.{where_checked, clamp_part}
-use Rattle.report.specs.Part.{curve_part, curve_read, job_part}
+use Rattle.grid.specs.Check.{check_number}
+use Rattle.grid.specs.Limits.{job_most}
+use Rattle.lines.specs.Lines.{refused_line, broken_line}
+use Rattle.clamp_lines.specs.ClampPart.{clamp_part}
+use Rattle.report.specs.Part.{refused_part, broken_part, curve_part, curve_read, job_part}
+
+-- a refusal's line is part 0, and there is no other
+pub refused-first : (number k : ℕ) → k ≡ 0 → refused_part number k ≡ refused_line number
+unfolding refused_part
+refused-first number k e = rw e
+
+pub refused-later : (number k : ℕ) → (k ≡ 0 → ⊥) → refused_part number k ≡ []
+unfolding refused_part
+refused-later number zero h = absurd (h refl)
+refused-later number (suc k) h = refl
+
+-- and so is the line on bytes that are no job, whose place lies within the longest job
+pub broken-first : (number place k : ℕ) → k ≡ 0 → place ≤ job_most → broken_part number place k ≡ broken_line number place
+unfolding broken_part
+broken-first number place k e h = rw (e, le-leb place job_most h)
+
+pub broken-later : (number place k : ℕ) → (k ≡ 0 → ⊥) → broken_part number place k ≡ []
+unfolding broken_part
+broken-later number place zero h = absurd (h refl)
+broken-later number place (suc k) h = refl
+
+pub broken-beyond : (number place k : ℕ) → k ≡ 0 → job_most < place → broken_part number place k ≡ []
+unfolding broken_part
+broken-beyond number place k e h = rw (e, lt-leb place job_most h)
 
 -- any part but the first is that of a clamp
 pub part-of-clamp : (m : ℕ) (c : Lists) (radius count : ℕ) (sides : List ℤ) (k : ℕ) → 0 < k → curve_part m c radius count sides k ≡ clamp_part m c radius count sides (k - 1)
@@ -36,6 +64,13 @@ module _ (m points radius count : ℕ) (now : Lists) (sides : List ℤ) (k : ℕ
       by true e = absurd (omega (arith, (enough-each (points + m + 1) points points (length now.knots) (length now.xs) (length now.ys) e).1))
       by false e = e
 
-  pub room : fits ≡ true → job_part m points radius count now sides k ≡ where_checked m (curve_read m points now) (curve_part m (curve_read m points now) radius count sides k)
+  -- there is room, and the curve passes the check or does not
+  pub room-checked : fits ≡ true → check_number m (take (points + m + 1) now.knots) (take points now.xs) (take points now.ys) ≡ 0
+      → job_part m points radius count now sides k ≡ curve_part m (curve_read m points now) radius count sides k
   unfolding job_part
-  room e = rw e
+  room-checked e h = rw (e, h)
+
+  pub room-refused : (number : ℕ) → fits ≡ true → number ≡ check_number m (take (points + m + 1) now.knots) (take points now.xs) (take points now.ys) → 0 < number
+      → job_part m points radius count now sides k ≡ []
+  unfolding job_part
+  room-refused number e h above = rw (e, ← h, ne_eqb number 0 (λ z. omega arith))

@@ -1,6 +1,6 @@
 -- Part k of the text (heading "`clampcheck`"), from what the reader answered and left in the lists: part 0 is the line on the curve or on the
 -- refusal, part k from 1 on all lines on clamp k. Past the last clamp, and past a refusal's line, a part is empty.
-use Rattle.std.specs.Prelude.{cond, List, [], ℕ, zero, suc, ◌+◌, leb, ℤ, length, take}
+use Rattle.std.specs.Prelude.{cond, List, [], Result, Ok, Err, ℕ, zero, suc, ◌+◌, leb, ℤ, length, take}
 use Rattle.curve.specs.Lists.{Lists, lists}
 use Rattle.curve.specs.HandingOver.{enough}
 use Rattle.grid.specs.Limits.{job_most}
@@ -8,8 +8,10 @@ use Rattle.span_walk.specs.SpansMet.{span_count}
 use Rattle.lines.specs.Lines.{curve_line, refused_line, broken_line}
 use Rattle.clamp_lines.specs.Places.{text_most}
 use Rattle.clamp_lines.specs.ClampPart.{where_checked, clamp_part}
-use Rattle.job.specs.declared.JobAnswer.{JobAnswer}
-use Rattle.job.specs.declared.JobAnswer.TheVariants.{Job, Broken, Refused}
+use Rattle.refusal.specs.Answers.{number_of}
+use Rattle.taken_field.specs.declared.Failure.{Failure}
+use Rattle.taken_field.specs.declared.Failure.TheVariants.{Broken, Refused}
+use Rattle.job.specs.declared.Job.{Job}
 
 -- the line on a curve: degree, points, non-empty spans
 abbrev pub curve_text : ℕ → Lists → List ℕ
@@ -42,11 +44,11 @@ job_part m points radius count now sides k =
     []
 
 -- part k by the reader's answer
-abbrev pub answer_part : JobAnswer → Lists → List ℤ → ℕ → List ℕ
-answer_part (Job m points radius count) now sides k = job_part m points radius count now sides k
-answer_part (Broken number place) now sides k = broken_part number place k
-answer_part (Refused number) now sides k = refused_part number k
+abbrev pub answer_part : Result Job Failure → Lists → List ℤ → ℕ → List ℕ
+answer_part (Ok job) now sides k = job_part job.degree job.points job.radius job.clamps now sides k
+answer_part (Err (Broken fault)) now sides k = broken_part (number_of fault.refusal) fault.place k
+answer_part (Err (Refused refusal)) now sides k = refused_part (number_of refusal) k
 
 -- what a list with so many places receives of it: all, where it has places for the longest part, else nothing
-abbrev pub part_put : JobAnswer → Lists → List ℤ → ℕ → ℕ → List ℕ
+abbrev pub part_put : Result Job Failure → Lists → List ℤ → ℕ → ℕ → List ℕ
 part_put answer now sides k places = cond (leb text_most places) (answer_part answer now sides k) []

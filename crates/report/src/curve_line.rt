@@ -1,26 +1,25 @@
 // The line on a curve.
-ghost use Rattle.std.specs.Prelude.{◌≤◌, length};
-ghost use Rattle.curve.specs.Lists.{lists};
+ghost use Rattle.std.specs.Prelude.{◌≡◌, ◌+◌, ◌≤◌, length};
+ghost use Rattle.checked.specs.Along.{lists_of};
 ghost use Rattle.digits.specs.Put.{Put};
 ghost use Rattle.clamp_lines.specs.Places.{text_most};
-ghost use Rattle.clamp_lines.specs.ClampPart.{where_checked};
 ghost use Rattle.report.specs.Part.{curve_text};
 
-// The line on a curve that passes the check; of any other nothing.
-pub(crate) fn put_curve(
-    degree: u32,
-    knots: &[u16],
-    xs: &[i32],
-    ys: &[i32],
-    text: &mut [u8],
-) -> usize
-    requires { text_most ≤ length text.old }
-    ensures result { Put text.old 0 (where_checked degree (lists knots.now xs.now ys.now)
-        (curve_text degree (lists knots.now xs.now ys.now))) text.new result }
+use checked::Curve;
+use digits::Pen;
+
+// Degree, points and spans of a curve that has passed the check.
+pub(crate) fn put_curve(pen: &mut Pen<'_>, curve: Curve<'_>)
+    requires { pen.old.at + text_most ≤ length pen.old.out.now }
+    ensures result { Put pen.old.out.now pen.old.at (curve_text curve.entry.degree (lists_of curve.entry))
+        pen.new.out.now pen.new.at }
+    ensures name { pen.new.out.ghost_name ≡ pen.old.out.ghost_name }
 {
-    if grid::check(degree, knots, xs, ys) != refusal::ACCEPTED {
-        return 0;
-    }
-    let spans = span_walk::count_spans(knots, degree as usize, xs.len());
-    lines::put_curve_line(text, 0, degree, xs.len() as u32, spans as u32)
+    let spans = span_walk::count_spans(curve);
+    lines::put_curve_line(
+        pen,
+        curve.degree as u32,
+        curve.xs.len() as u32,
+        spans as u32,
+    );
 }

@@ -3,103 +3,119 @@
 
 mod curve_line;
 
-ghost use Rattle.std.specs.Prelude.{◌≤◌, length};
+ghost use Rattle.std.specs.Prelude.{◌≡◌, ◌+◌, ◌≤◌, length};
+ghost use Rattle.refusal.specs.Answers.{number_of};
 ghost use Rattle.curve.specs.Lists.{lists};
+ghost use Rattle.checked.specs.Along.{lists_of};
 ghost use Rattle.digits.specs.Put.{Put};
 ghost use Rattle.clamp_lines.specs.Places.{text_most};
-ghost use Rattle.clamp_lines.specs.ClampPart.{where_checked};
-ghost use Rattle.report.specs.Part.{refused_part, broken_part, curve_part, job_part, part_put};
+ghost use Rattle.report.specs.Part.{refused_part, broken_part, curve_part, job_part, answer_part, part_put};
 
+use checked::Curve;
 pub use clamp_lines::TEXT_MOST;
-use job::JobAnswer;
+use digits::Pen;
+use job::Job;
+use refusal::Refusal;
+use taken_field::{Break, Failure};
 
 // Part k of a refusal.
-fn put_refusal(number: u32, k: usize, text: &mut [u8]) -> usize
-    requires { text_most ≤ length text.old }
-    ensures result { Put text.old 0 (refused_part number k) text.new result }
+fn put_refusal(pen: &mut Pen<'_>, refusal: Refusal, k: usize)
+    requires { pen.old.at + text_most ≤ length pen.old.out.now }
+    ensures result { Put pen.old.out.now pen.old.at (refused_part (number_of refusal) k) pen.new.out.now pen.new.at }
+    ensures name { pen.new.out.ghost_name ≡ pen.old.out.ghost_name }
 {
-    if k > 0 {
-        return 0;
+    if k == 0 {
+        lines::put_refused_line(pen, refusal.into());
     }
-    lines::put_refused_line(text, 0, number)
 }
 
 // Part k of bytes that are no job.
-fn put_broken(number: u32, place: usize, k: usize, text: &mut [u8]) -> usize
-    requires { text_most ≤ length text.old }
-    ensures result { Put text.old 0 (broken_part number place k) text.new result }
+fn put_broken(pen: &mut Pen<'_>, fault: Break, k: usize)
+    requires { pen.old.at + text_most ≤ length pen.old.out.now }
+    ensures result { Put pen.old.out.now pen.old.at (broken_part (number_of fault.refusal) fault.place k)
+        pen.new.out.now pen.new.at }
+    ensures name { pen.new.out.ghost_name ≡ pen.old.out.ghost_name }
 {
-    if k > 0 {
-        return 0;
+    if k == 0 && fault.place <= grid::JOB_MOST {
+        lines::put_broken_line(pen, fault.refusal.into(), fault.place as u32);
     }
-    if place > grid::JOB_MOST {
-        return 0;
-    }
-    lines::put_broken_line(text, 0, number, place as u32)
 }
 
 // Part k of a curve with the cutter's radius and its clamps.
 fn put_curve_part(
-    degree: u32,
-    knots: &[u16],
-    xs: &[i32],
-    ys: &[i32],
+    pen: &mut Pen<'_>,
+    curve: Curve<'_>,
     radius: u32,
     count: usize,
     sides: &[i32],
     k: usize,
-    text: &mut [u8],
-) -> usize
-    requires { text_most ≤ length text.old }
-    ensures result { Put text.old 0 (where_checked degree (lists knots.now xs.now ys.now)
-        (curve_part degree (lists knots.now xs.now ys.now) radius count sides.now k)) text.new result }
+)
+    requires { pen.old.at + text_most ≤ length pen.old.out.now }
+    ensures result { Put pen.old.out.now pen.old.at
+        (curve_part curve.entry.degree (lists_of curve.entry) radius count sides.now k)
+        pen.new.out.now pen.new.at }
+    ensures name { pen.new.out.ghost_name ≡ pen.old.out.ghost_name }
 {
     if k == 0 {
-        return curve_line::put_curve(degree, knots, xs, ys, text);
+        return curve_line::put_curve(pen, curve);
     }
-    clamp_lines::put_clamp(degree, knots, xs, ys, radius, count, sides, k - 1, text)
+    clamp_lines::put_clamp(pen, curve, radius, count, sides, k - 1);
 }
 
 // Part k of a job that was read into the fronts of the lists.
 fn put_job(
-    degree: u32,
-    points: usize,
-    radius: u32,
-    count: usize,
+    pen: &mut Pen<'_>,
+    job: Job,
     knots: &[u16],
     xs: &[i32],
     ys: &[i32],
     sides: &[i32],
     k: usize,
-    text: &mut [u8],
-) -> usize
-    requires { text_most ≤ length text.old }
-    ensures result { Put text.old 0
-        (job_part degree points radius count (lists knots.now xs.now ys.now) sides.now k) text.new result }
+)
+    requires { pen.old.at + text_most ≤ length pen.old.out.now }
+    ensures result { Put pen.old.out.now pen.old.at
+        (job_part job.degree job.points job.radius job.clamps (lists knots.now xs.now ys.now) sides.now k)
+        pen.new.out.now pen.new.at }
+    ensures name { pen.new.out.ghost_name ≡ pen.old.out.ghost_name }
 {
+    let points = job.points;
     if xs.len() < points {
-        return 0;
+        return;
     }
-    let end = points + degree as usize + 1;
+    let end = points + job.degree as usize + 1;
     if !curve::room_for(end, points, points, knots.len(), xs.len(), ys.len()) {
-        return 0;
+        return;
     }
-    put_curve_part(
-        degree,
-        &knots[..end],
-        &xs[..points],
-        &ys[..points],
-        radius,
-        count,
-        sides,
-        k,
-        text,
-    )
+    if let Ok(curve) = Curve::check(job.degree, &knots[..end], &xs[..points], &ys[..points]) {
+        put_curve_part(pen, curve, job.radius, job.clamps, sides, k);
+    }
 }
 
-// Puts part k at the front of the text, from the reader's answer and the lists that it filled, and answers how many bytes it put.
+// Part k, from the reader's answer and the lists that it filled.
+fn put_answer(
+    pen: &mut Pen<'_>,
+    answer: Result<Job, Failure>,
+    knots: &[u16],
+    xs: &[i32],
+    ys: &[i32],
+    sides: &[i32],
+    k: usize,
+)
+    requires { pen.old.at + text_most ≤ length pen.old.out.now }
+    ensures result { Put pen.old.out.now pen.old.at
+        (answer_part answer (lists knots.now xs.now ys.now) sides.now k) pen.new.out.now pen.new.at }
+    ensures name { pen.new.out.ghost_name ≡ pen.old.out.ghost_name }
+{
+    match answer {
+        Ok(job) => put_job(pen, job, knots, xs, ys, sides, k),
+        Err(Failure::Broken(fault)) => put_broken(pen, fault, k),
+        Err(Failure::Refused(refusal)) => put_refusal(pen, refusal, k),
+    }
+}
+
+// Puts part k at the front of the text, and answers how many bytes it put.
 pub fn put_part(
-    answer: JobAnswer,
+    answer: Result<Job, Failure>,
     knots: &[u16],
     xs: &[i32],
     ys: &[i32],
@@ -113,16 +129,7 @@ pub fn put_part(
     if text.len() < TEXT_MOST {
         return 0;
     }
-    match answer {
-        JobAnswer::Refused(number) => put_refusal(number, k, text),
-        JobAnswer::Broken { number, place } => put_broken(number, place, k, text),
-        JobAnswer::Job {
-            degree,
-            points,
-            radius,
-            clamps,
-        } => put_job(
-            degree, points, radius, clamps, knots, xs, ys, sides, k, text,
-        ),
-    }
+    let mut pen = Pen { out: text, at: 0 };
+    put_answer(&mut pen, answer, knots, xs, ys, sides, k);
+    pen.at
 }
