@@ -13,7 +13,7 @@ fn entry(ps: &[i32], j: usize) -> f64
     requires { j < length ps.now }
     ensures answer { result ≡ of_int binary64 (get_or ps.now j (pos 0)) }
 {
-    ps[j] as f64
+    f64::from(ps[j])
 }
 
 // Row 0: the carrying coordinates of the span, the last at place 3.

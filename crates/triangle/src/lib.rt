@@ -8,12 +8,12 @@ ghost use Rattle.triangle.specs.FloatCell.{float_cell};
 pub fn cell(left: i32, right: i32, whole: i32, l: f64, r: f64) -> f64
     ensures answer { result ≡ float_cell left right whole l r }
 {
-    ((left as f64) * l + (right as f64) * r) / (whole as f64)
+    (f64::from(left) * l + f64::from(right) * r) / f64::from(whole)
 }
 
 // a - b, below zero where b is the larger.
 pub fn difference(a: u16, b: u16) -> i32
     ensures answer { result ≡ pos a -ℤ pos b }
 {
-    (a as i32) - (b as i32)
+    i32::from(a) - i32::from(b)
 }
