@@ -6,8 +6,9 @@ mod inner;
 mod loading;
 mod runs;
 
-ghost use Rattle.std.specs.Prelude.{◌≡◌, ◌+◌, length};
+ghost use Rattle.std.specs.Prelude.{◌≡◌, List, ℕ, ◌+◌, length};
 ghost use Rattle.curve.specs.Lists.{lists};
+ghost use Rattle.grid.specs.Check.{Passes};
 ghost use Rattle.checked.specs.Along.{lists_of};
 ghost use Rattle.checked.specs.Checked.{Clamped};
 ghost use Rattle.pieces.specs.Walk.{AtSpan, Handed, Hands};
@@ -26,19 +27,19 @@ pub struct Walk {
     pub ys: [i32; 4],
 }
 
-// The walk at the first span.
-pub fn start(curve: Curve<'_>) -> Walk
-    ensures answer { Clamped curve.entry.degree curve.entry.knots.now (length curve.entry.xs.now)
-        → AtSpan curve.entry.degree (lists_of curve.entry) result }
+// The walk at the first span. The points alone, and no checked curve: it reads no knot.
+pub fn start(m: usize, xs: &[i32], ys: &[i32]) -> Walk
+    requires { (ts : List ℕ) × Passes m ts xs.now ys.now }
+    ensures answer { (ts : List ℕ) → Passes m ts xs.now ys.now → Clamped m ts (length xs.now) → AtSpan m (lists ts xs.now ys.now) result }
     ensures first { result.index ≡ 0 }
 {
-    let width = curve.degree + 1;
+    let width = m + 1;
     Walk {
         index: 0,
-        span: curve.degree,
-        points: curve.xs.len(),
-        xs: loading::loaded(curve.xs, 0, width),
-        ys: loading::loaded(curve.ys, 0, width),
+        span: m,
+        points: xs.len(),
+        xs: loading::loaded(xs, 0, width),
+        ys: loading::loaded(ys, 0, width),
     }
 }
 

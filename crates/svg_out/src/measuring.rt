@@ -27,7 +27,7 @@ pub(crate) fn measure(curve: Curve<'_>) -> Result<usize, Refusal>
     requires { Clamped curve.degree curve.knots.now (length curve.xs.now) }
     ensures answer { Measures curve.entry.degree (lists_of curve.entry) result }
 {
-    let mut walk = pieces::start(curve);
+    let mut walk = pieces::start(curve.degree, curve.xs, curve.ys);
     let mut length = 0;
     while walk.span < curve.xs.len() {
         let (piece, next) = pieces::next_piece(curve, walk)?;

@@ -34,7 +34,7 @@ pub(crate) fn put_path(curve: Curve<'_>, out: &mut [u8])
     ensures result { out.new ≡ over (pieces_text curve.entry.degree (lists_of curve.entry)) out.old }
 {
     let mut pen = Pen { out, at: 0 };
-    let mut walk = pieces::start(curve);
+    let mut walk = pieces::start(curve.degree, curve.xs, curve.ys);
     while walk.span < curve.xs.len() {
         let Ok((piece, next)) = pieces::next_piece(curve, walk) else {
             return; // never: measuring was refused nothing
