@@ -8,7 +8,7 @@ use Rattle.svg_out.proofs.measuring.measure.Goals as goal
 
 pub loop-walk-init : goal.loop-walk-init
 loop-walk-init c = let curve = c.args.curve in
-    measuring-begins curve.degree (lists_of curve) c.start-walk.result 0 (c.start-walk.ensures.answer c.requires) c.start-walk.ensures.first refl
+    measuring-begins curve.degree (lists_of curve) c.start-walk.result 0 (c.start-walk.ensures.answer curve.knots.now curve.passes c.requires) c.start-walk.ensures.first refl
 
 pub part_length-length-requires : goal.part_length-length-requires
 part_length-length-requires c = let curve = c.args.curve in

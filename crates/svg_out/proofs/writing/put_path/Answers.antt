@@ -6,7 +6,7 @@ use Rattle.svg_out.proofs.writing.put_path.Goals as goal
 
 pub loop-walk-init : goal.loop-walk-init
 loop-walk-init c = let a = c.args in
-    (writing_begins a.curve.degree (lists_of a.curve) a.out.now c.requires.accepted c.requires.room c.start-walk.result (c.start-walk.ensures.answer c.requires.clamped) c.start-walk.ensures.first, refl)
+    (writing_begins a.curve.degree (lists_of a.curve) a.out.now c.requires.accepted c.requires.room c.start-walk.result (c.start-walk.ensures.answer a.curve.knots.now a.curve.passes c.requires.clamped) c.start-walk.ensures.first, refl)
 
 pub put_part-requires-clause-piece_in_bounds : goal.put_part-requires-clause-piece_in_bounds
 put_part-requires-clause-piece_in_bounds c = let a = c.args in
