@@ -12,8 +12,8 @@ use Rattle.clamping.specs.EndRows.{whole, end_row, end_number, start_of, finish_
 use Rattle.clamping.specs.Clamping.{clamped_number, is_whole, whole_of, clamped_points}
 use Rattle.clamping.proofs.ClampedLaws.{points-at}
 use Rattle.clamping.proofs.WholeLaws.{whole-of-number, number-only}
-use Rattle.clamp_rows.specs.declared.NearEnd.{NearEnd}
-use Rattle.clamp_rows.specs.Near.{as_end, Gathered}
+use Rattle.clamp_rows.specs.declared.ends.NearEnd.{NearEnd}
+use Rattle.clamp_rows.specs.Ends.{as_end, Gathered}
 use Rattle.clamp_rows.proofs.SameLaws.{number_same}
 
 -- an old point is whole, and is itself

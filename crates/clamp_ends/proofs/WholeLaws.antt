@@ -13,8 +13,9 @@ use Rattle.clamping.specs.declared.Share.{Share}
 use Rattle.clamping.specs.EndRows.{end_number, start_of, finish_of}
 use Rattle.clamping.specs.Clamping.{clamped_number, is_whole, all_whole}
 use Rattle.clamping.proofs.WholeLaws.{whole_each, whole-of-each}
-use Rattle.clamp_rows.specs.declared.NearEnd.{NearEnd}
-use Rattle.clamp_rows.specs.Near.{Carries, as_end, Gathered}
+use Rattle.clamp_rows.specs.declared.ends.NearEnd.{NearEnd}
+use Rattle.clamp_rows.specs.Near.{Carries}
+use Rattle.clamp_rows.specs.Ends.{as_end, Gathered}
 use Rattle.clamp_ends.proofs.NumberLaws.{point-whole, start-number, finish-number, between}
 
 -- the numbers of an end, of which there are m - 1: one, or two

@@ -2,18 +2,16 @@
 ghost use Rattle.std.specs.Prelude.{◌&&◌, ◌≡◌, ◌-◌, ◌≤◌, length};
 ghost use Rattle.clamping.specs.Clamping.{clamped_number, all_whole};
 ghost use Rattle.clamping.specs.EndRows.{end_number};
-ghost use Rattle.clamp_rows.specs.Near.{as_end, Near};
+ghost use Rattle.clamp_rows.specs.Ends.{as_end};
 
-use clamp_rows::Line;
+use clamp_rows::{Line, NearEnd, finish_of, is_whole, number, start_of};
 
 // The new points at an end.
-fn end_whole(end: clamp_rows::NearEnd, m: usize) -> bool
-    requires near { Near end }
-    requires le_m { (2 ≤ m) × (m ≤ 3) }
+fn end_whole(end: NearEnd, m: usize) -> bool
+    requires { (2 ≤ m) × (m ≤ 3) }
     ensures answer { result ≡ all_whole (λ k. end_number (as_end end) m k) (m - 1) }
 {
-    clamp_rows::is_whole(clamp_rows::number(end, m, 0))
-        && (m == 2 || clamp_rows::is_whole(clamp_rows::number(end, m, 1)))
+    is_whole(number(end, m, 0)) && (m == 2 || is_whole(number(end, m, 1)))
 }
 
 // Both ends of one axis.
@@ -21,7 +19,7 @@ fn axis_whole(line: Line<'_>) -> bool
     ensures answer { result ≡ all_whole (clamped_number line.entry.degree line.entry.knots.now line.entry.points.now) (length line.entry.points.now) }
 {
     let m = line.degree;
-    m < 2 || (end_whole(clamp_rows::start_of(line), m) && end_whole(clamp_rows::finish_of(line), m))
+    m < 2 || (end_whole(start_of(line), m) && end_whole(finish_of(line), m))
 }
 
 // Both axes.

@@ -11,12 +11,14 @@ use Rattle.signed.proofs.FitLaws.{fits32-of-size, read-wider}
 use Rattle.grid.specs.Limits.{coordinate_most, knot_most}
 use Rattle.insertion.specs.Insertion.{point_at}
 use Rattle.clamping.specs.EndRows.{End}
-use Rattle.clamp_rows.specs.Near.{Near, Gathered}
+use Rattle.clamp_rows.specs.declared.ends.NearEnd.{NearEnd}
+use Rattle.clamp_rows.specs.Near.{Near}
+use Rattle.clamp_rows.specs.Ends.{Gathered}
 
 module _ (end : End) (a b c d : ℕ) (p q r : ℤ) (ea : a ≡ end.inside 1) (eb : b ≡ end.inside 2) (ec : c ≡ end.outside 1) (ed : d ≡ end.outside 2)
     (ep : p ≡ end.point 0) (eq : q ≡ end.point 1) (er : r ≡ end.point 2) where
-  gathered : Gathered (record { inside = a ∷ b ∷ []; outside = c ∷ d ∷ []; point = p ∷ q ∷ r ∷ [] }) end
-  gathered = record { inside = inside; outside = outside; point = point }
+  pub gathered : (e : NearEnd) → e.inside ≡ a ∷ b ∷ [] → e.outside ≡ c ∷ d ∷ [] → e.point ≡ p ∷ q ∷ r ∷ [] → Gathered e end
+  gathered e i o w = record { inside = rw i inside; outside = rw o outside; point = rw w point }
     where
       inside : (k : ℕ) → k < 2 → get_or (a ∷ b ∷ []) k 0 ≡ end.inside (k + 1)
       inside zero h = ea
@@ -34,8 +36,8 @@ module _ (end : End) (a b c d : ℕ) (p q r : ℤ) (ea : a ≡ end.inside 1) (eb
       point (suc (suc zero)) h = er
       point (suc (suc (suc k))) h = absurd (omega arith)
 
-  near : 0 < end.inside 1 → 0 < end.inside 2 → ((j l : ℕ) → end.inside j + end.outside l ≤ knot_most) → ((k : ℕ) → nat_abs (end.point k) ≤ coordinate_most)
-      → Near (record { inside = a ∷ b ∷ []; outside = c ∷ d ∷ []; point = p ∷ q ∷ r ∷ [] })
+  pub near : 0 < end.inside 1 → 0 < end.inside 2 → ((j l : ℕ) → end.inside j + end.outside l ≤ knot_most) → ((k : ℕ) → nat_abs (end.point k) ≤ coordinate_most)
+      → Near (a ∷ b ∷ []) (c ∷ d ∷ []) (p ∷ q ∷ r ∷ [])
   near first second close range = record { apart = apart; within = within; range = ranges }
     where
       apart : (k : ℕ) → k < 2 → 0 < get_or (a ∷ b ∷ []) k 0
@@ -59,11 +61,6 @@ module _ (end : End) (a b c d : ℕ) (p q r : ℤ) (ea : a ≡ end.inside 1) (eb
       ranges (suc zero) = rw eq (range 1)
       ranges (suc (suc zero)) = rw er (range 2)
       ranges (suc (suc (suc k))) = omega arith
-
-  pub gathered-near : 0 < end.inside 1 → 0 < end.inside 2 → ((j l : ℕ) → end.inside j + end.outside l ≤ knot_most) → ((k : ℕ) → nat_abs (end.point k) ≤ coordinate_most)
-      → Gathered (record { inside = a ∷ b ∷ []; outside = c ∷ d ∷ []; point = p ∷ q ∷ r ∷ [] }) end
-      × Near (record { inside = a ∷ b ∷ []; outside = c ∷ d ∷ []; point = p ∷ q ∷ r ∷ [] })
-  gathered-near first second close range = (gathered, near first second close range)
 
 -- a point that was widened is read as it stands in the list
 pub point-widened : (ps : List ℤ) (j k : ℕ) (r : ℤ) → nat_abs (point_at ps k) ≤ coordinate_most → j ≡ k → r ≡ to_z w32 (of_z w32 (point_at ps j)) → to_z w64 (of_z w64 r) ≡ point_at ps k

@@ -15,8 +15,9 @@ use Rattle.insertion.specs.Insertion.{point_at}
 use Rattle.clamping.specs.declared.Share.{Share}
 use Rattle.clamping.specs.EndRows.{End, whole, mean, end_row, end_number}
 use Rattle.clamping.proofs.BoundLaws.{row-bounded, row-lower, first-row-most, second-row-most}
-use Rattle.clamp_rows.specs.declared.NearEnd.{NearEnd}
-use Rattle.clamp_rows.specs.Near.{Small, Sized, as_end, Near}
+use Rattle.clamp_rows.specs.declared.ends.NearEnd.{NearEnd}
+use Rattle.clamp_rows.specs.Near.{Small, Sized, Near}
+use Rattle.clamp_rows.specs.Ends.{as_end}
 
 -- a point is small
 pub point-small : (z : ℤ) → nat_abs z ≤ coordinate_most → Small (record { upper = z; lower = 1 })
@@ -39,7 +40,7 @@ pub of-second-row : (e : NearEnd) (m k : ℕ) → m ≡ 3 → k ≡ 0
 unfolding end_row
 of-second-row e m k three none = rw (three, none)
 
-module _ (e : NearEnd) (s : Near e) where
+module _ (e : NearEnd) (s : Near e.inside e.outside e.point) where
   within : (j l : ℕ) → (as_end e).inside j + (as_end e).outside l ≤ knot_most
   within j l = s.within (j - 1) (l - 1)
 

@@ -4,8 +4,8 @@ use Prim.Native.Nat.{ℕ, zero, suc, ◌+◌, ◌-◌, ◌≤◌}
 use native.Mathlib.Omega.{arith}
 use Rattle.clamping.specs.declared.Share.{Share}
 use Rattle.clamping.specs.EndRows.{End, whole, mean, end_row, end_number}
-use Rattle.clamp_rows.specs.declared.NearEnd.{NearEnd}
-use Rattle.clamp_rows.specs.Near.{as_end, Gathered}
+use Rattle.clamp_rows.specs.declared.ends.NearEnd.{NearEnd}
+use Rattle.clamp_rows.specs.Ends.{as_end, Gathered}
 
 mean-same : (d d' e e' : ℕ) (a a' b b' : Share) → d ≡ d' → a ≡ a' → e ≡ e' → b ≡ b' → mean d a e b ≡ mean d' a' e' b'
 mean-same d d' e e' a a' b b' p q r s = rw (p, q, r, s)

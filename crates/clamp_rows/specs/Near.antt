@@ -4,8 +4,6 @@ use Rattle.curve.specs.Lists.{NeverFall}
 use Rattle.grid.specs.Limits.{coordinate_most, knot_most}
 use Rattle.insertion.specs.Insertion.{point_at}
 use Rattle.clamping.specs.declared.Share.{Share}
-use Rattle.clamping.specs.EndRows.{End}
-use Rattle.clamp_rows.specs.declared.NearEnd.{NearEnd}
 
 -- one axis of a curve on the grid whose every point carries a span: the first span and the last are not empty
 pub record Carries (m : ℕ) (ts : List ℕ) (ps : List ℤ) : Type 0 where
@@ -29,23 +27,8 @@ pub record Sized (a : Share) : Type 0 where
   pub most : a.lower < 2 ^ 63
   pub range : nat_abs a.upper ≤ coordinate_most * a.lower
 
--- the end that was gathered
-abbrev pub as_end : NearEnd → End
-as_end e =
-    record {
-      inside = λ k. get_or e.inside (k - 1) 0;
-      outside = λ k. get_or e.outside (k - 1) 0;
-      point = λ k. point_at e.point k;
-    }
-
--- the knots inside lie apart from the end, no knot further from another than the grid is long, and the points are on the grid
-pub record Near (e : NearEnd) : Type 0 where
-  pub apart : (k : ℕ) → k < 2 → 0 < get_or e.inside k 0
-  pub within : (j k : ℕ) → get_or e.inside j 0 + get_or e.outside k 0 ≤ knot_most
-  pub range : (k : ℕ) → nat_abs (point_at e.point k) ≤ coordinate_most
-
--- it is what stands at this end
-pub record Gathered (e : NearEnd) (end : End) : Type 0 where
-  pub inside : (k : ℕ) → k < 2 → get_or e.inside k 0 ≡ end.inside (k + 1)
-  pub outside : (k : ℕ) → k < 2 → get_or e.outside k 0 ≡ end.outside (k + 1)
-  pub point : (k : ℕ) → k < 3 → point_at e.point k ≡ end.point k
+-- what is read of an end: the knots inside lie apart from it, no knot lies further from another than the grid is long, and the points are on the grid
+pub record Near (inside outside : List ℕ) (point : List ℤ) : Type 0 where
+  pub apart : (k : ℕ) → k < 2 → 0 < get_or inside k 0
+  pub within : (j k : ℕ) → get_or inside j 0 + get_or outside k 0 ≤ knot_most
+  pub range : (k : ℕ) → nat_abs (point_at point k) ≤ coordinate_most

@@ -2,7 +2,8 @@
 ghost use Rattle.std.specs.Prelude.{◌≡◌, ◌-◌, ◌≤◌, ◌<◌, length, get_or};
 ghost use Rattle.curve.specs.Lists.{NeverFall};
 ghost use Rattle.clamping.specs.EndRows.{start_of, finish_of};
-ghost use Rattle.clamp_rows.specs.Near.{Carries, Near, Gathered};
+ghost use Rattle.clamp_rows.specs.Ends.{Gathered};
+ghost use Rattle.clamp_rows.specs.Near.{Carries};
 
 use crate::NearEnd;
 
@@ -28,7 +29,6 @@ pub struct Line<'a> {
 pub fn start_of(line: Line<'_>) -> NearEnd
     requires { 2 ≤ line.degree }
     ensures gathered { Gathered result (start_of line.entry.degree line.entry.knots.now line.entry.points.now) }
-    ensures near { Near result }
 {
     let m = line.degree;
     let knots = line.knots;
@@ -44,7 +44,6 @@ pub fn start_of(line: Line<'_>) -> NearEnd
 pub fn finish_of(line: Line<'_>) -> NearEnd
     requires { 2 ≤ line.degree }
     ensures gathered { Gathered result (finish_of line.entry.knots.now line.entry.points.now) }
-    ensures near { Near result }
 {
     let knots = line.knots;
     let ps = line.points;

@@ -2,30 +2,26 @@
 // inwards from the end of the domain, so that the same functions serve the start and the end, on both axes.
 #![tactic(auto)]
 
+mod ends;
 mod gathering;
 
 ghost use Rattle.std.specs.Prelude.{◌≡◌, ◌+◌, ◌*◌, ◌≤◌, pos, nat_abs, ◌*ℤ◌};
 ghost use Rattle.grid.specs.Limits.{coordinate_most, knot_most};
 ghost use Rattle.clamping.specs.Clamping.{is_whole, whole_of};
 ghost use Rattle.clamping.specs.EndRows.{mean, end_row, end_number};
-ghost use Rattle.clamp_rows.specs.Near.{Small, Sized, as_end, Near};
+ghost use Rattle.clamp_rows.specs.Ends.{as_end};
+ghost use Rattle.clamp_rows.specs.Near.{Small, Sized};
 
 use clamping::Share;
+pub use ends::NearEnd;
 pub use gathering::{Line, finish_of, start_of};
-
-// What is read of an end: how far the first two knots inside and outside lie from the end of the domain, and the first three points.
-#[derive(Clone, Copy, PartialEq, Eq, Debug)]
-pub struct NearEnd {
-    pub inside: [u64; 2],
-    pub outside: [u64; 2],
-    pub point: [i64; 3],
-}
 
 // d·lower·upper: at most 2^60 either way, so neither it nor the sum of two wraps.
 fn scaled(d: u64, lower: u64, upper: i64) -> i64
     requires { (d ≤ knot_most) × (lower ≤ knot_most) × (nat_abs upper ≤ coordinate_most * knot_most) }
     ensures answer { result ≡ pos (d * lower) *ℤ upper }
 {
+    // `as`: the product is below 2^28, and no lossless conversion leads from u64 to i64.
     ((d * lower) as i64) * upper
 }
 
@@ -43,8 +39,7 @@ fn mean_of(d: u64, a: Share, e: u64, b: Share) -> Share
 
 // The entry k of the first row.
 fn first_row(end: NearEnd, m: usize, k: usize) -> Share
-    requires near { Near end }
-    requires k_bound { (k + 2 ≤ m) × (m ≤ 3) }
+    requires { (k + 2 ≤ m) × (m ≤ 3) }
     ensures answer { result ≡ end_row (as_end end) m 1 k }
 {
     let from = Share {
@@ -60,8 +55,7 @@ fn first_row(end: NearEnd, m: usize, k: usize) -> Share
 
 // The k-th point of the clamped end, for a k below m - 1.
 pub fn number(end: NearEnd, m: usize, k: usize) -> Share
-    requires near { Near end }
-    requires k_bound { (k + 2 ≤ m) × (m ≤ 3) }
+    requires { (k + 2 ≤ m) × (m ≤ 3) }
     ensures answer { result ≡ end_number (as_end end) m k }
     ensures sized { Sized result }
 {
@@ -76,11 +70,12 @@ pub fn number(end: NearEnd, m: usize, k: usize) -> Share
     )
 }
 
-// Whether a number is whole.
+// Whether a number is whole. That it is `Sized` stays a clause, of `number` above and of the two below: a type for it would hold a `Share` and no more.
 pub fn is_whole(a: Share) -> bool
     requires { Sized a }
     ensures answer { result ≡ is_whole a }
 {
+    // `as`: it is below 2^63.
     a.upper % (a.lower as i64) == 0
 }
 
@@ -89,5 +84,6 @@ pub fn value(a: Share) -> i32
     requires { Sized a }
     ensures answer { result ≡ whole_of a }
 {
+    // `as`: the quotient lies on the grid.
     (a.upper / (a.lower as i64)) as i32
 }

@@ -8,5 +8,5 @@ pub returns : goal.returns
 returns c = record {
   answer = let a = c.args in
       let e = a.end in
-      (rw (point-read e c.requires.near a.k, point-read e c.requires.near (a.k + 1)) at c.mean_of.ensures.answer) ∙ first-is e a.m a.k;
+      (rw (point-read e e.near a.k, point-read e e.near (a.k + 1)) at c.mean_of.ensures.answer) ∙ first-is e a.m a.k;
 }
