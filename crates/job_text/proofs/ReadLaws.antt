@@ -2,12 +2,12 @@
 use mathlib.Core.Bool.{Bool, true, false, cond}
 use mathlib.Core.List.{List}
 use mathlib.Core.Path.{◌≡◌, refl, sym, ◌∙◌, ap}
-use Prim.Native.Nat.{ℕ, zero, suc, ◌+◌, ◌≤◌, ◌<◌}
+use Prim.Native.Nat.{ℕ, zero, suc, ◌+◌, ◌*◌, ◌≤◌, ◌<◌}
 use native.Mathlib.Omega.{arith}
 use lib.Dec.{eqb, ltb}
 use lib.IntN.{ℤ}
 use lib.ListN.{length, get_or, take, drop, length-append}
-use borrow.Author.Tests.{eqb-true, eqb-false, ltb-true, lt-ltb}
+use borrow.Author.Tests.{eqb-true, eqb-false, ltb-true, lt-ltb, le-leb}
 use Rattle.refusal.specs.Judging.{unless}
 use Rattle.refusal.specs.Numbers.{accepted, radius_refused, rectangle_refused}
 use Rattle.refusal.proofs.JudgingLaws.{unless-accepted}
@@ -24,10 +24,10 @@ use Rattle.grid.proofs.CheckLaws.{checked_then-split}
 use Rattle.grid.proofs.SizeLaws.{sizes-of-passes}
 use Rattle.clamps.specs.Clamp.{Clamp, no_clamp, all_sides, clamps_ok}
 use Rattle.boxes.specs.declared.Rectangle.{Rectangle}
-use Rattle.clamp_lines.specs.ClampPart.{clamp_lines, where_checked, where_sound, clamp_part}
+use Rattle.clamp_lines.specs.ClampPart.{clamp_lines, standing, where_sound, clamp_part}
 use Rattle.clamp_lines.proofs.ClampPartLaws.{clamp-there}
 use Rattle.report.specs.Part.{curve_part, curve_read, job_part}
-use Rattle.report.proofs.PartLaws.{room}
+use Rattle.report.proofs.PartLaws.{room-checked}
 use Rattle.job_text.specs.Text.{rectangle_of, accepted_part, text_number}
 use Rattle.job_text.proofs.ClampLaws.{clamp-in-front, clamp-passes, sides-length}
 
@@ -72,12 +72,16 @@ module _ (m : ℕ) (c : Lists) (radius : ℕ) (cs : List Clamp) (before : Lists)
   abbrev pub sides : List ℤ
   sides = over (all_sides cs) sides_before
 
+  stands : (k : ℕ) → k < length cs → standing (length cs) sides k ≡ true
+  stands k h =
+      rw (lt-ltb k (length cs) h, lt-ltb k clamps_most (omega (arith, h, few)), le-leb (4 * k + 4) (length sides) (omega (arith, h, sides-length cs, length-append (all_sides cs) (drop (length (all_sides cs)) sides_before))))
+
   -- clamp k of the list of sides, where the job has one
   clamp-read : (k : ℕ) → k < length cs → clamp_part m c radius (length cs) sides k ≡ accepted_part m c radius cs (suc k)
   unfolding accepted_part
   clamp-read k h =
       let clamp = rectangle_of (get_or cs k no_clamp) in
-      clamp-there m c radius (length cs) sides k h (omega (arith, h, few)) (omega (arith, h, sides-length cs, length-append (all_sides cs) (drop (length (all_sides cs)) sides_before)))
+      clamp-there m c radius (length cs) sides k (stands k h)
       ∙ ap (λ (r : Rectangle). where_sound radius r (clamp_lines m c radius (suc k) r)) (clamp-in-front cs sides_before k h)
       ∙ rw (passes.short, clamp-passes cs k passes.upright h, lt-ltb k (length cs) h)
 
@@ -104,8 +108,9 @@ module _ (m : ℕ) (c : Lists) (radius : ℕ) (cs : List Clamp) (before : Lists)
   -- part k of the job that was read
   pub job_read : (k : ℕ) → job_part m (length c.xs) radius (length cs) now sides k ≡ accepted_part m c radius cs k
   job_read k =
-      room m (length c.xs) radius (length cs) now sides k
+      room-checked m (length c.xs) radius (length cs) now sides k
       (enough-all (length c.xs + m + 1) (length c.xs) (length c.xs) (length now.knots) (length now.xs) (length now.ys)
       (fits c.knots before.knots (length c.xs + m + 1) knots-many) (fits c.xs before.xs (length c.xs) refl) (fits c.ys before.ys (length c.xs) ys-many))
-      ∙ ap (λ (d : Lists). where_checked m d (curve_part m d radius (length cs) sides k)) read
-      ∙ rw passes.curve (part-read k)
+      (ap (λ (d : Lists). check_number m d.knots d.xs d.ys) read ∙ passes.curve)
+      ∙ ap (λ (d : Lists). curve_part m d radius (length cs) sides k) read
+      ∙ part-read k
