@@ -36,9 +36,13 @@ module _ (m : ℕ) (ts : List ℕ) (xs ys : List ℤ) (clamp : Rectangle) (radiu
   abbrev pub number : ℕ → ℕ → ℕ
   number lows highs = number_with_places m (lists ts xs ys) clamp radius lows highs
 
-  pub number-curve : (lows highs : ℕ) (e : Refusal) → number_of e ≡ check_number m ts xs ys → number lows highs ≡ number_of e
+  pub number-curve : (lows highs : ℕ) → (check_number m ts xs ys ≡ 0 → ⊥) → number lows highs ≡ check_number m ts xs ys
   unfolding number_with_places
-  number-curve lows highs e h = let above = refused-above_zero e in checked_then-refused m ts xs ys _ (λ z. omega (arith, above)) ∙ sym h
+  number-curve lows highs h = checked_then-refused m ts xs ys _ h
+
+  -- what the check refuses has the check's number
+  pub number-unchecked : (lows highs : ℕ) (e : Refusal) → number_of e ≡ check_number m ts xs ys → number lows highs ≡ number_of e
+  number-unchecked lows highs e h = let above = refused-above_zero e in number-curve lows highs (λ z. omega (arith, above)) ∙ sym h
 
   pub number-radius : (lows highs : ℕ) → check_number m ts xs ys ≡ 0 → radius_ok radius ≡ false → number lows highs ≡ radius_refused
   unfolding number_with_places
