@@ -1,4 +1,5 @@
 -- The two worked removals: B has no polygon without its knot 2, and B with its third point moved has one.
+use Rattle.std.specs.Prelude.{Err}
 use mathlib.Core.List.{List}
 use mathlib.Core.Path.{◌≡◌, refl, sym, ap, ◌∙◌}
 use Prim.Native.Nat.{ℕ}
@@ -22,7 +23,7 @@ use Rattle.removal.proofs.EquationLaws.{reinserts-left, reinserts-right, reinser
 use Rattle.removal.proofs.PolygonLaws.{reinserts-xs, reinserts-reduced}
 use Rattle.removal.specs.Judged.{inner_ok, removal_number}
 use Rattle.removal.specs.Outcome as Outcome
-use Rattle.remove_knot.specs.declared.RemoveAnswer.TheVariants.{Removed, Refused}
+use Rattle.refusal.specs.declared.Refusal.TheVariants.{NotRemovable}
 use Rattle.worked.specs.Case.{Holds, removed_not, removed, places_of, no_places}
 use Rattle.worked.specs.Worked.{curve_b, curve_b-wider, curve_b-parabola}
 
@@ -48,12 +49,15 @@ not-removable r =
 
 pub b-keeps-its-knot : Holds (removed_not 2 curve_b 2 13)
 unfolding removal_number inner_ok strictly_inside checked_then degree_ok point_count_ok knot_count_ok rises_from knot_order_ok ends_ok occurrences repeats_most repeats_within repeats_ok on_grid all_on_grid range_ok
-b-keeps-its-knot =
-    ends-untouched (Outcome.RemovalComesTo 2 curve_b 2 no_places) (λ (d : Lists). Removed (length d.xs)) Refused no_places 13 curve_b
-    (Outcome.not_removable refl not-removable refl) (λ e. omega arith)
+b-keeps-its-knot = (
+  NotRemovable,
+  refl,
+  ends-untouched (Outcome.RemovalComesTo 2 curve_b 2 no_places) (λ (d : Lists). length d.xs) no_places 13 curve_b
+      (Outcome.not_removable refl not-removable refl) (Err NotRemovable) refl (λ e. omega arith),
+)
 
 pub wider-b-loses-its-knot : Holds (removed 2 curve_b-wider 2 curve_b-parabola)
 unfolding removal_number inner_ok strictly_inside enough without_one checked_then degree_ok point_count_ok knot_count_ok rises_from knot_order_ok ends_ok occurrences repeats_most repeats_within repeats_ok on_grid all_on_grid range_ok insertion_number insertable_then value_ok place_ok whole_ok whole_points whole_from divides weight weighted_sum insertion_span knots_up_to inserted_knots inserted_points inserted_point entries
 wider-b-loses-its-knot =
-    ends-done (Outcome.RemovalComesTo 2 curve_b-wider 2 (places_of curve_b-parabola)) (λ (d : Lists). Removed (length d.xs)) Refused (places_of curve_b-parabola) 0 curve_b-parabola
+    ends-done (Outcome.RemovalComesTo 2 curve_b-wider 2 (places_of curve_b-parabola)) (λ (d : Lists). length d.xs) (places_of curve_b-parabola) 0 curve_b-parabola
     (Outcome.removed refl (record { fewer = refl; accepts = refl; gives = refl }) refl) curve_b-parabola refl refl

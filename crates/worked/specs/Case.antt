@@ -1,36 +1,30 @@
 -- A worked example: a call, what it is called on and what it answers (heading "Worked by hand"). It holds where the call's own
 -- definition gives that answer. Refusal numbers are numerals here, and parameters stand in knot units.
-use Rattle.std.specs.Prelude.{false, List, [], ◌∷◌, map, ◌≡◌, ℕ, ℤ, pos, Float, length, replicate}
+use Rattle.std.specs.Prelude.{false, List, [], ◌∷◌, map, Result, Ok, Err, ◌≡◌, ℕ, ℤ, pos, Float, length, replicate}
 use Rattle.std.specs.Float.{binary64}
 use Rattle.std.specs.Float.Ieee.{round}
+use Rattle.refusal.specs.Answers.{number_of}
+use Rattle.refusal.specs.declared.Refusal.{Refusal}
 use Rattle.curve.specs.Lists.{Lists, lists}
 use Rattle.point_at.specs.declared.PointAnswer.{PointAnswer}
 use Rattle.point_at.specs.declared.PointAnswer.TheVariants.{At}
 use Rattle.point_at.specs.Point.{answer_of}
 use Rattle.domain.specs.Parameter.{parameter_number}
-use Rattle.carrying.specs.declared.Axis.{Axis}
+use Rattle.checked.specs.declared.Axis.{Axis}
 use Rattle.carrying.specs.Carrying.{part_of}
 use Rattle.boxes.specs.declared.Rectangle.{Rectangle}
 use Rattle.span_walk.specs.SpanLists.{SpanLists, span_lists}
-use Rattle.spans_met.specs.Answer.{list_answer, listed}
-use Rattle.spans_met.specs.declared.SpansAnswer.TheVariants.{Listed, Refused as SpansRefused}
+use Rattle.spans_met.specs.Answer.{ListAnswer, listed}
 use Rattle.lent.specs.Lent.{after}
 use Rattle.format.specs.Format.{form1, record_bytes}
-use Rattle.record.specs.Writing.{write_number, write_answer}
-use Rattle.record.specs.declared.WriteAnswer.TheVariants.{Written}
+use Rattle.record.specs.Writing.{write_number, WriteAnswers}
 use Rattle.compact.specs.Outcome.{CompactOutcome}
-use Rattle.compact.specs.declared.CompactAnswer.TheVariants.{Compacted}
 use Rattle.insert_knot.specs.Answer.{InsertOutcome}
-use Rattle.insert_knot.specs.declared.InsertAnswer.TheVariants.{Inserted, Refused as InsertRefused}
 use Rattle.remove_knot.specs.Outcome.{RemovalOutcome}
-use Rattle.remove_knot.specs.declared.RemoveAnswer.TheVariants.{Removed, Refused as RemoveRefused}
 use Rattle.joining.specs.SplinePoints.{SplinePoints}
 use Rattle.joining.specs.Answer.{JoinOutcome}
-use Rattle.joining.specs.declared.JoinAnswer.TheVariants.{Joined, Refused as JoinRefused}
 use Rattle.clamp_ends.specs.Answer.{ClampOutcome}
-use Rattle.clamp_ends.specs.declared.ClampAnswer.TheVariants.{Clamped, Refused as ClampRefused}
 use Rattle.unclamp_right.specs.Answer.{UnclampOutcome}
-use Rattle.unclamp_right.specs.declared.UnclampAnswer.TheVariants.{Unclamped, Refused as UnclampRefused}
 
 -- coordinates that are not below zero
 abbrev pub whole : List ℕ → List ℤ
@@ -91,6 +85,10 @@ places_of_spans s = span_lists (replicate (length s.lows) 0) (replicate (length 
 abbrev pub no_places : Lists
 no_places = lists [] [] []
 
+-- a call ends so with the refusal that has this number
+abbrev pub RefusedBy : ℕ → (Result ℕ Refusal → Type 0) → Type 0
+RefusedBy n EndsSo = (e : Refusal) × (number_of e ≡ n) × EndsSo (Err e)
+
 -- the call's definition gives the answer, and the lent lists are then the expected ones
 abbrev pub Holds : Case → Type 0
 Holds (point_at m c u a) = answer_of m c.knots c.xs c.ys (argument u) ≡ a
@@ -99,23 +97,23 @@ Holds (carried m c u axis part) =
 Holds (carried_not m c u axis n) =
     (parameter_number m c.knots c.xs c.ys (argument u) ≡ n) × (part_of m c.knots c.xs c.ys (argument u) axis ≡ [])
 Holds (spans_listed m c clamp radius count s) =
-    (list_answer m c clamp radius (places_of_spans s) ≡ Listed count) × (listed m c clamp radius (places_of_spans s) ≡ s)
+    ListAnswer m c clamp radius (places_of_spans s) (Ok count) × (listed m c clamp radius (places_of_spans s) ≡ s)
 Holds (spans_not m c clamp radius n) =
-    (list_answer m c clamp radius (span_lists [] []) ≡ SpansRefused n) × (listed m c clamp radius (span_lists [] []) ≡ span_lists [] [])
+    RefusedBy n (λ answer. ListAnswer m c clamp radius (span_lists [] []) answer) × (listed m c clamp radius (span_lists [] []) ≡ span_lists [] [])
 Holds (recorded m c bytes) =
     let places : List ℕ = replicate (length bytes) 0 in
-    (write_answer m c places ≡ Written (length bytes)) × (after (write_number m c places) (record_bytes form1 m c) places ≡ bytes)
-Holds (compacted m c count d) = CompactOutcome m c (places_of d) (Compacted count) d
-Holds (inserted m c v d) = InsertOutcome m c v (places_of d) (Inserted (length d.xs)) d
-Holds (inserted_not m c v n) = InsertOutcome m c v no_places (InsertRefused n) no_places
-Holds (removed m c v d) = RemovalOutcome m c v (places_of d) (Removed (length d.xs)) d
-Holds (removed_not m c v n) = RemovalOutcome m c v no_places (RemoveRefused n) no_places
-Holds (joined inner s d) = JoinOutcome inner s (places_of d) (Joined (length d.xs)) d
-Holds (joined_not inner s n) = JoinOutcome inner s no_places (JoinRefused n) no_places
-Holds (full_ends m c d) = ClampOutcome m c (places_of d) (Clamped (length d.xs)) d
-Holds (full_ends_not m c n) = ClampOutcome m c no_places (ClampRefused n) no_places
-Holds (open_right m c d) = UnclampOutcome m c (places_of d) (Unclamped (length d.xs)) d
-Holds (open_right_not m c n) = UnclampOutcome m c no_places (UnclampRefused n) no_places
+    WriteAnswers m c places (Ok (length bytes)) × (after (write_number m c places) (record_bytes form1 m c) places ≡ bytes)
+Holds (compacted m c count d) = CompactOutcome m c (places_of d) (Ok count) d
+Holds (inserted m c v d) = InsertOutcome m c v (places_of d) (Ok (length d.xs)) d
+Holds (inserted_not m c v n) = RefusedBy n (λ answer. InsertOutcome m c v no_places answer no_places)
+Holds (removed m c v d) = RemovalOutcome m c v (places_of d) (Ok (length d.xs)) d
+Holds (removed_not m c v n) = RefusedBy n (λ answer. RemovalOutcome m c v no_places answer no_places)
+Holds (joined inner s d) = JoinOutcome inner s (places_of d) (Ok (length d.xs)) d
+Holds (joined_not inner s n) = RefusedBy n (λ answer. JoinOutcome inner s no_places answer no_places)
+Holds (full_ends m c d) = ClampOutcome m c (places_of d) (Ok (length d.xs)) d
+Holds (full_ends_not m c n) = RefusedBy n (λ answer. ClampOutcome m c no_places answer no_places)
+Holds (open_right m c d) = UnclampOutcome m c (places_of d) (Ok (length d.xs)) d
+Holds (open_right_not m c n) = RefusedBy n (λ answer. UnclampOutcome m c no_places answer no_places)
 
 -- each of a list holds
 abbrev pub AllHold : List Case → Type 0

@@ -4,7 +4,7 @@ use Rattle.curve.specs.Lists.{Lists, lists}
 use Rattle.joined_curve.specs.Curve.{inner_twice, inner_thrice}
 use Rattle.joining.specs.SplinePoints.{SplinePoints, spline_points}
 use Rattle.point_at.specs.declared.PointAnswer.TheVariants.{Refused}
-use Rattle.carrying.specs.declared.Axis.TheVariants.{X, Y}
+use Rattle.checked.specs.declared.Axis.TheVariants.{X, Y}
 use Rattle.boxes.specs.declared.Rectangle.{Rectangle}
 use Rattle.span_walk.specs.SpanLists.{span_lists}
 use Rattle.worked.specs.Case.{Case, point_at, carried, carried_not, spans_listed, spans_not, recorded, compacted, inserted, inserted_not, removed, removed_not, joined, joined_not, full_ends, full_ends_not, open_right, open_right_not, whole, at}
