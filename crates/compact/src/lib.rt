@@ -1,31 +1,25 @@
 // Compacting a curve ("Inserting and removing a knot"): the call, for any input.
 #![tactic(auto)]
 
-mod sizes;
-
-ghost use Rattle.std.specs.Prelude.{◌≡◌};
 ghost use Rattle.curve.specs.Lists.{lists};
 ghost use Rattle.compact.specs.Outcome.{CompactOutcome};
-ghost use Rattle.compact.specs.Sizes.{answer_of};
 
-// The number of knots that were removed, or why the call is refused.
-#[derive(Clone, Copy)]
-pub enum CompactAnswer {
-    Compacted(usize),
-    Refused(u32),
-}
+use checked::Curve;
+use curve::Lent;
+use refusal::Refusal;
 
-// What a pass answers, as the call's answer.
-fn answer(pass: work_lists::PassAnswer) -> CompactAnswer
-    ensures answer { result ≡ answer_of pass }
-{
-    match pass {
-        work_lists::PassAnswer::Took(count) => CompactAnswer::Compacted(count),
-        work_lists::PassAnswer::Refused(number) => CompactAnswer::Refused(number),
-    }
-}
+// The points that the short work lists hold; the longest hold any curve. A new list is cleared, which takes time in proportion to its
+// length, and for a few points the longest would take more than all the rest. A curve has at most four knots more than points.
+const SHORT: usize = 64;
 
-// One pass of removals; what is left goes to the three lent lists. A refusal leaves them as they were found.
+const SHORT_KNOTS: usize = SHORT + 4;
+
+const LONGEST: usize = grid::POINTS_MOST;
+
+const LONGEST_KNOTS: usize = LONGEST + 4;
+
+// One pass of removals; what is left goes to the three lent lists, and the answer is the number of knots that went. A refusal leaves the lists as they
+// were found. A curve with no inner knot, of which nothing can go, needs no work lists.
 pub fn compact(
     degree: u32,
     knots: &[u16],
@@ -34,14 +28,23 @@ pub fn compact(
     out_knots: &mut [u16],
     out_xs: &mut [i32],
     out_ys: &mut [i32],
-) -> CompactAnswer
+) -> Result<usize, Refusal>
     ensures answer { CompactOutcome degree (lists knots.now xs.now ys.now)
         (lists out_knots.old out_xs.old out_ys.old) result
         (lists out_knots.new out_xs.new out_ys.new) }
 {
-    let number = grid::check(degree, knots, xs, ys);
-    if number != refusal::ACCEPTED {
-        return CompactAnswer::Refused(number);
+    let curve = Curve::check(degree, knots, xs, ys)?;
+    if xs.len() == curve.degree + 1 {
+        let into = Lent {
+            knots: out_knots,
+            xs: out_xs,
+            ys: out_ys,
+        };
+        into.receive(knots, xs, ys)?;
+        return Ok(0);
     }
-    answer(sizes::compact_checked(degree as usize, knots, xs, ys, out_knots, out_xs, out_ys))
+    if xs.len() <= SHORT {
+        return work_lists::compact_in::<SHORT_KNOTS, SHORT>(curve, out_knots, out_xs, out_ys);
+    }
+    work_lists::compact_in::<LONGEST_KNOTS, LONGEST>(curve, out_knots, out_xs, out_ys)
 }

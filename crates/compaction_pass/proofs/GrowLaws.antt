@@ -6,7 +6,7 @@ use Prim.Native.Nat.{ℕ, suc, ◌+◌, ◌-◌, ◌≤◌, ◌<◌}
 use native.Mathlib.Omega.{arith}
 use lib.IntN.{ℤ, pos}
 use lib.ListN.{length, get_or, take, drop, set, length-set, length-drop, drop_of_length-le, take-append-drop}
-use lib.Seq.{take-suc-set, drop-cons, get_or-set_other, length-take-le, take_all, take-length}
+use lib.Seq.{take-suc-set, drop-cons, get_or-set_other, length-take-le}
 use Rattle.lent.specs.Lent.{over}
 use Rattle.grid.specs.Rows.{range_ok, all_on_grid}
 use Rattle.refusal.proofs.JudgingLaws.{both}
@@ -309,20 +309,12 @@ module _ (m : ℕ) (c : Lists) (passing : CurvePasses m c) (ks₀ : List ℕ) (x
         }
 
 -- a curve of m + 1 points has no inner knot: a pass leaves it as it is
-pub nothing-inner : (m : ℕ) (c : Lists) → CurvePasses m c → length c.xs ≡ m + 1 → PassOutcome m (length c.xs) c c.knots c.xs c.ys (length c.xs)
+pub nothing-inner : (m : ℕ) (c : Lists) → CurvePasses m c → length c.xs ≡ m + 1 → Pass m (get_or c.knots m 0) c c
 nothing-inner m c passing few =
     let s = sizes-of-passes m c.knots c.xs c.ys passing in
     let rises = rises-of-test c.knots (passes-tests m c.knots c.xs c.ys passing).order in
-    let whole : front_curve m (length c.xs) c.knots c.xs c.ys ≡ c =
-    curve-is c (take (length c.xs + m + 1) c.knots) (take (length c.xs) c.xs) (take (length c.xs) c.ys)
-    (take_all (length c.xs + m + 1) c.knots (omega (arith, s.knots))) (take-length c.xs) (take_all (length c.xs) c.ys (omega (arith, s.as_many))) in
-    record {
-      fewer = omega arith;
-      passes = record { passes = subst (λ (x : Lists). CurvePasses m x) (sym whole) passing };
-      pass = subst (λ (x : Lists). Pass m (get_or c.knots m 0) c x) (sym whole)
-          (done (λ v i.
-          let at = stands_at v c.knots i.present in
-          either at.0 (length c.xs)
-          (λ before. omega (arith, at.2, i.left, rises at.0 m (omega arith) (omega (arith, s.knots))))
-          (λ behind. omega (arith, at.2, i.right, rises (length c.xs) at.0 behind at.1))));
-    }
+    done (λ v i.
+    let at = stands_at v c.knots i.present in
+    either at.0 (length c.xs)
+    (λ before. omega (arith, at.2, i.left, rises at.0 m (omega arith) (omega (arith, s.knots))))
+    (λ behind. omega (arith, at.2, i.right, rises (length c.xs) at.0 behind at.1)))

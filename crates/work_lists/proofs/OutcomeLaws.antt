@@ -1,34 +1,28 @@
 -- A pass whose result is handed over.
-use mathlib.Core.List.{List}
-use mathlib.Core.Path.{◌≡◌}
-use Prim.Native.Nat.{ℕ, ◌+◌, ◌≤◌}
+use mathlib.Core.Path.{◌≡◌, refl, sym, ap}
+use Prim.Native.Nat.{ℕ, ◌-◌}
 use native.Mathlib.Omega.{arith}
-use lib.IntN.{ℤ}
 use lib.ListN.{length}
+use Rattle.std.specs.Prelude.{Result, Ok, Err}
+use Rattle.refusal.specs.Answers.{number_of, number_in}
+use Rattle.refusal.specs.declared.Refusal.{Refusal}
+use Rattle.refusal.proofs.AnswerLaws.{refused-above_zero}
 use Rattle.curve.specs.Lists.{Lists}
+use Rattle.curve.specs.HandingOver.{room_number, handed_over}
+use Rattle.curve.proofs.HandingLaws.{ends-refused, ends-done}
 use Rattle.grid.specs.Check.{Passes}
-use Rattle.grid.proofs.SizeLaws.{sizes-of-passes}
 use Rattle.compaction.specs.Compaction.{CompactsTo}
-use Rattle.value_removal.specs.Work.{Holding}
-use Rattle.work_lists.specs.declared.PassAnswer.{PassAnswer}
-use Rattle.compaction.specs.Outcome.{compacted}
-use Rattle.work_lists.specs.Outcome.{FrontOutcome, WorkOutcome}
+use Rattle.compaction.specs.Outcome.{CompactionComesTo, compacted, knots_taken}
+use Rattle.work_lists.specs.Outcome.{WorkOutcome}
 
--- lists for so many points hold a curve that has no more
-pub held : (points m : ℕ) (c : Lists) → Passes m c.knots c.xs c.ys → length c.xs ≤ points
-    → (ks : List ℕ) (xs ys : List ℤ) → length ks ≡ points + 4 → length xs ≡ points → length ys ≡ points → Holding m (length c.xs) ks xs ys
-held points m c p within ks xs ys a b d =
-    let s = sizes-of-passes m c.knots c.xs c.ys p in
-    record { room_knots = omega (arith, s.degree-most); room_xs = omega arith; room_ys = omega arith }
+-- what a pass leaves is handed over, or there is no room for it
+module _ (m : ℕ) (c : Lists) (p : Passes m c.knots c.xs c.ys) (d : Lists) (pass : CompactsTo m c d) (before now : Lists) where
+  pub work_refused : (answer : Result ℕ Refusal) (e : Refusal) → answer ≡ Err e → number_of e ≡ room_number d before → now ≡ handed_over (number_of e) d before
+      → WorkOutcome m c before answer now
+  work_refused answer e is number hands =
+      let above = refused-above_zero e in
+      ends-refused (CompactionComesTo m c before) (λ (d : Lists). knots_taken c d) before (number_of e) d (compacted p pass number) answer now (ap number_in is) (λ z. omega (arith, above)) hands
 
--- a pass and its handing over are an outcome of the call
-pub outcome-of-front : (m : ℕ) (c : Lists) → Passes m c.knots c.xs c.ys → (d : Lists) → CompactsTo m c d
-    → (before : Lists) (a : PassAnswer) (now : Lists) → FrontOutcome d (length c.xs) before a now → WorkOutcome m c before a now
-outcome-of-front m c p d pass before a now o =
-    record {
-      number = o.number;
-      result = o.result;
-      comes_to = compacted p (rw o.comes_to.0 pass) (rw o.comes_to.0 o.comes_to.1);
-      answers = o.answers;
-      hands = o.hands;
-    }
+  pub work_done : (left : ℕ) → length d.xs ≡ left → 0 ≡ room_number d before → now ≡ handed_over 0 d before → WorkOutcome m c before (Ok (length c.xs - left)) now
+  work_done left e number hands =
+      rw (sym e) (ends-done (CompactionComesTo m c before) (λ (d : Lists). knots_taken c d) before 0 d (compacted p pass number) now refl hands)

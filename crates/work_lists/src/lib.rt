@@ -1,81 +1,43 @@
-// Compacting a curve that has passed the check ("Inserting and removing a knot"), in work lists that are lent.
+// Compacting a curve that has passed the check ("Inserting and removing a knot"), in work lists of a size that the caller chooses.
 #![tactic(auto)]
 
-ghost use Rattle.std.specs.Prelude.{◌≤◌, length};
-ghost use Rattle.grid.specs.Check.{Passes};
+ghost use Rattle.std.specs.Prelude.{◌≡◌, ◌+◌, ◌≤◌, length};
+ghost use Rattle.grid.specs.Limits.{points_most};
 ghost use Rattle.curve.specs.Lists.{lists};
-ghost use Rattle.value_removal.specs.Work.{front_curve, Holding};
-ghost use Rattle.work_lists.specs.Outcome.{FrontOutcome, WorkOutcome};
+ghost use Rattle.checked.specs.Along.{lists_of};
+ghost use Rattle.work_lists.specs.Outcome.{WorkOutcome};
 
-// The number of knots that a pass took, or why what it left is not handed over.
-#[derive(Clone, Copy)]
-pub enum PassAnswer {
-    Took(usize),
-    Refused(u32),
-}
+use checked::Curve;
+use curve::Lent;
+use refusal::Refusal;
 
-// The curve at the front of some lists, handed over if the lent lists are long enough for it: `left` points, after n points before.
-pub fn hand_front(
-    m: usize,
-    left: usize,
-    n: usize,
-    knots: &[u16],
-    xs: &[i32],
-    ys: &[i32],
+// One pass in work lists for N points and for N + 4 knots, which are K; the result is handed over where there is room for it. Answers how many
+// knots went. The three lists stand alone here: of a Lent that is handed on twice the check loses sight.
+pub fn compact_in<const K: usize, const N: usize>(
+    curve: Curve<'_>,
     out_knots: &mut [u16],
     out_xs: &mut [i32],
     out_ys: &mut [i32],
-) -> PassAnswer
-    requires left_le_n { left ≤ n }
-    requires holding { Holding m left knots.now xs.now ys.now }
-    ensures answer { FrontOutcome (front_curve m left knots.now xs.now ys.now) n
+) -> Result<usize, Refusal>
+    requires size { (K ≡ N + 4) × (N ≤ points_most) }
+    requires xs_in_bounds { length curve.xs.now ≤ N }
+    ensures answer { WorkOutcome curve.entry.degree (lists_of curve.entry)
         (lists out_knots.old out_xs.old out_ys.old) result
         (lists out_knots.new out_xs.new out_ys.new) }
 {
-    let count = left + m + 1;
-    let number = curve::hand_over(
-        &knots[..count],
-        &xs[..left],
-        &ys[..left],
-        out_knots,
-        out_xs,
-        out_ys,
-    );
-    if number != refusal::ACCEPTED {
-        return PassAnswer::Refused(number);
-    }
-    PassAnswer::Took(n - left)
-}
-
-// One pass in the work lists, and the result handed over where there is room for it.
-pub fn compact_in(
-    m: usize,
-    knots: &[u16],
-    xs: &[i32],
-    ys: &[i32],
-    work_knots: &mut [u16],
-    work_xs: &mut [i32],
-    work_ys: &mut [i32],
-    out_knots: &mut [u16],
-    out_xs: &mut [i32],
-    out_ys: &mut [i32],
-) -> PassAnswer
-    requires passes { Passes m knots.now xs.now ys.now }
-    requires holding { Holding m (length xs.now) work_knots.old work_xs.old work_ys.old }
-    ensures answer { WorkOutcome m (lists knots.now xs.now ys.now)
-        (lists out_knots.old out_xs.old out_ys.old) result
-        (lists out_knots.new out_xs.new out_ys.new) }
-{
-    let left = compaction_pass::compact_into(m, knots, xs, ys, work_knots, work_xs, work_ys);
-    hand_front(
-        m,
-        left,
-        xs.len(),
-        work_knots,
-        work_xs,
-        work_ys,
-        out_knots,
-        out_xs,
-        out_ys,
-    )
+    let mut work_knots = [0u16; K];
+    let mut work_xs = [0i32; N];
+    let mut work_ys = [0i32; N];
+    let knots = &mut work_knots[..];
+    let xs = &mut work_xs[..];
+    let ys = &mut work_ys[..];
+    let left = compaction_pass::compact_into(curve, Lent { knots, xs, ys });
+    let count = left + curve.degree + 1;
+    let into = Lent {
+        knots: out_knots,
+        xs: out_xs,
+        ys: out_ys,
+    };
+    into.receive(&knots[..count], &xs[..left], &ys[..left])?;
+    Ok(curve.xs.len() - left)
 }

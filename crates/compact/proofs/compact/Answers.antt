@@ -1,25 +1,15 @@
--- A refusal leaves the lists; what a pass hands out, the call hands out.
-use mathlib.Core.Path.{◌∙◌}
-use Rattle.curve.specs.Lists.{Lists, lists}
-use Rattle.curve.proofs.HandingLaws.{ends-untouched}
-use Rattle.compact.specs.declared.CompactAnswer.TheVariants.{Compacted, Refused}
-use Rattle.compaction.specs.Outcome.{CompactionComesTo, refused, knots_taken}
-use Rattle.compact.proofs.OutcomeLaws.{outcome-of-work}
+-- A refusal leaves the lists; a curve with no inner knot is handed over as it is; else the pass ends the call.
+use Rattle.std.proofs.Common.{rules}
+use Rattle.compact.proofs.OutcomeLaws.{compact_unchecked, compact_cramped, compact_whole}
 use Rattle.compact.proofs.compact.Goals as goal
 
-pub returns-then-number-ne-ACCEPTED : goal.returns-then-number-ne-ACCEPTED
-returns-then-number-ne-ACCEPTED c = record {
-  answer = let a = c.args in
-      let e = c.check-number.ensures.answer in
-      let curve : Lists = lists a.knots.now a.xs.now a.ys.now in
-      let lent : Lists = lists a.out_knots.now a.out_xs.now a.out_ys.now in
-      ends-untouched (CompactionComesTo a.degree curve lent) (λ (d : Lists). Compacted (knots_taken curve d)) Refused lent c.check-number.result curve
-      (refused (λ z. c.if-number-ne-ACCEPTED.true (e ∙ z)) e) c.if-number-ne-ACCEPTED.true;
+pub returns-in_err-curve : goal.returns-in_err-curve
+returns-in_err-curve c = record { answer = compact_unchecked _ _ _ _ c.in_err-curve.field-0.0 (search rules) c.in_err-curve.ensures.answer }
+
+pub returns-in_err-receive : goal.returns-in_err-receive
+returns-in_err-receive c = record {
+  answer = compact_cramped _ _ _ (search rules) (search rules) _ _ c.in_err-receive.field-0.0 (search rules) c.in_err-receive.ensures.answer c.in_err-receive.ensures.result;
 }
 
-pub returns : goal.returns
-returns c = record {
-  answer = let a = c.args in
-      let p = c.compact_checked in outcome-of-work a.degree (lists a.knots.now a.xs.now a.ys.now) (lists a.out_knots.now a.out_xs.now a.out_ys.now) p.result
-      (lists p.new.out_knots p.new.out_xs p.new.out_ys) c.answer.result c.answer.ensures.answer p.ensures.answer;
-}
+pub returns-then-xs-curve : goal.returns-then-xs-curve
+returns-then-xs-curve c = record { answer = compact_whole _ _ _ (search rules) (search rules) _ c.in_ok-receive.ensures.answer c.in_ok-receive.ensures.result }
