@@ -2,6 +2,7 @@
 ghost use Rattle.std.specs.Prelude.{◌≡◌, length};
 ghost use Rattle.curve.specs.Lists.{lists};
 ghost use Rattle.grid.specs.Check.{check_number};
+ghost use Rattle.refusal.specs.Answers.{Answers};
 ghost use Rattle.domain.specs.Parameter.{parameter_number};
 ghost use Rattle.point_at.specs.Point.{point_of};
 ghost use Rattle.boxes.specs.Widening.{widened};
@@ -45,6 +46,15 @@ pub fn tsb_point(
     }
 }
 
+// Where the carrying points of t begin in both coordinate lists.
+fn first_of(degree: u32, knots: &[u16], xs: &[i32], ys: &[i32], t: u32) -> Result<usize, Refusal>
+    ensures answer { Answers (parameter_number degree knots.now xs.now ys.now t) (first_carrying degree knots.now xs.now t) result }
+{
+    let curve = domain::check_parameter(degree, knots, xs, ys, t)?;
+    let i = span::span_of(curve.knots, curve.degree, curve.xs.len() - 1, t);
+    Ok(i - curve.degree)
+}
+
 // The carrying points of t are the entries `first` to `first` + `degree` of both coordinate lists.
 pub fn tsb_carrying(
     degree: u32,
@@ -57,14 +67,8 @@ pub fn tsb_carrying(
     ensures answer { result ≡ parameter_number degree knots.now xs.now ys.now t }
     ensures count { first.new ≡ placed result (first_carrying degree knots.now xs.now t) first.old }
 {
-    let number = domain::check_parameter(degree, knots, xs, ys, t);
-    if number != refusal::ACCEPTED {
-        return number;
-    }
-    let m = degree as usize;
-    let i = span::span_of(knots, m, xs.len() - 1, t);
-    *first = i - m;
-    refusal::ACCEPTED
+    let answer = first_of(degree, knots, xs, ys, t);
+    put(answer, first)
 }
 
 pub fn tsb_spans(
