@@ -5,5 +5,6 @@ pub mod RisingLaws
 pub mod EndLaws
 pub mod OccurrenceLaws
 pub mod GridLaws
+pub mod CurveLaws
 pub mod CheckedLaws
 pub mod SentenceLaws
