@@ -9,8 +9,9 @@ ghost use Rattle.clamp_lines.specs.Places.{text_most};
 ghost use Rattle.job_text.specs.Text.{PartOf};
 ghost use Rattle.job_text.specs.Program.{Places, ReadInPlaces};
 
-use job::JobAnswer;
+use job::Job;
 use std::io::{Read, Stdin, Stdout, Write};
+use taken_field::Failure;
 
 // Writes part k of the text of the job, asks that it be that part, and answers the number of the next. What cannot be written is lost.
 fn write_part(out: &mut Stdout, job: &[u8], k: usize, part: &[u8]) -> usize
@@ -25,7 +26,7 @@ fn write_part(out: &mut Stdout, job: &[u8], k: usize, part: &[u8]) -> usize
 fn write_parts(
     out: &mut Stdout,
     job: &[u8],
-    answer: JobAnswer,
+    answer: Result<Job, Failure>,
     knots: &[u16],
     xs: &[i32],
     ys: &[i32],
@@ -35,12 +36,12 @@ fn write_parts(
     requires { ReadInPlaces job.now answer (lists knots.now xs.now ys.now) sides.now × (text_most ≤ length text.old) }
     ensures count { result ≡ clamps_most + 1 }
 {
-    let mut k = 0;
-    while k <= grid::CLAMPS_MOST {
+    let mut written = 0;
+    for k in 0..grid::CLAMPS_MOST + 1 {
         let n = report::put_part(answer, knots, xs, ys, sides, k, text);
-        k = write_part(out, job, k, &text[..n]);
+        written = write_part(out, job, k, &text[..n]);
     }
-    k
+    written
 }
 
 // Reads a job into places for the longest one, and writes its text.

@@ -14,10 +14,10 @@ use Rattle.clampcheck.proofs.write_parts.Goals as goal
 front : (c : After-put_part-n) → let a = c.args in let call = c.put_part-n in (call.result ≤ length call.new.text) × (take call.result call.new.text ≡ part_put a.answer (lists a.knots.now a.xs.now a.ys.now) a.sides.now c.loop-k.k (length c.loop-k.text))
 front c = put_front c.put_part-n.ensures.result
 
-pub write_part-k-requires : goal.write_part-k-requires
-write_part-k-requires c = let a = c.args in
+pub write_part-written-requires : goal.write_part-written-requires
+write_part-written-requires c = let a = c.args in
     let loop = c.loop-k in (
       omega arith,
-      rw (front (goal.at.write_part-k-requires c).After-put_part-n).1
+      rw (front (goal.at.write_part-written-requires c).After-put_part-n).1
           (parts-are-the-text a.job.now a.answer (lists a.knots.now a.xs.now a.ys.now) a.sides.now loop.k (length loop.text) c.requires.0 (omega (arith, loop.invariant.1, c.requires.1))),
     )
