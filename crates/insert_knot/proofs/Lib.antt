@@ -1,3 +1,4 @@
 -- Laws of the insertion call.
 pub mod AnswerLaws
+pub mod AskedLaws
 mod Controls

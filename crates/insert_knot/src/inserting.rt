@@ -3,7 +3,8 @@ ghost use Rattle.curve.specs.Lists.{lists};
 ghost use Rattle.checked.specs.Along.{lists_of};
 ghost use Rattle.insert_knot.specs.Answer.{InsertOutcome};
 
-use crate::judging::judge_at;
+use crate::asked::Asked;
+use crate::judging::judge;
 use crate::writing::write;
 use checked::Curve;
 use curve::Lent;
@@ -18,13 +19,14 @@ pub(crate) fn insert_checked(curve: Curve<'_>, v: u32, into: Lent<'_>) -> Result
     if !span::strictly_inside(curve.knots, curve.degree, curve.xs.len(), v) {
         return Err(Refusal::Insertion);
     }
-    let value = v as u16;
-    let at = insertion_parts::knots_up_to(curve.knots, value);
-    judge_at(curve, value, at)?;
+    let v = v as u16;
+    let at = insertion_parts::knots_up_to(curve.knots, v);
+    let asked = Asked { curve, v, at };
+    judge(asked)?;
     let count = curve.xs.len() + 1;
     into.room(curve.knots.len() + 1, count, curve.ys.len() + 1)?;
     // Taken apart: where it is handed on whole, the check loses sight of the lists that a refusal leaves.
     let Lent { knots, xs, ys } = into;
-    write(curve, value, at, knots, xs, ys);
+    write(asked, knots, xs, ys);
     Ok(count)
 }

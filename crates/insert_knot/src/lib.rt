@@ -1,6 +1,7 @@
 // Inserting a knot into a curve ("Inserting and removing a knot"): the call, for any input.
 #![tactic(auto)]
 
+mod asked;
 mod inserting;
 mod judging;
 mod writing;
