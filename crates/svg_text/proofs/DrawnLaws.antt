@@ -1,11 +1,15 @@
 -- The text of a curve, from what writing its path data answers: in a list with a place more than the longest text 15 is never given.
 use mathlib.Core.List.{List, ◌++◌}
 use mathlib.Core.Path.{◌≡◌, sym, ap, subst, ◌∙◌}
-use Prim.Native.Nat.{ℕ, ◌+◌, ◌^◌, ◌≤◌, ◌<◌}
+use Prim.Native.Nat.{ℕ, ◌+◌, ◌≤◌, ◌<◌}
 use native.Mathlib.Decide.{ℕ_discrete}
 use native.Mathlib.Omega.{arith}
 use lib.ListN.{length, length-append}
 use borrow.Author.Tests.{ne_eqb, le-leb}
+use Rattle.std.specs.Prelude.{Ok, Err}
+use Rattle.refusal.specs.Answers.{number_of}
+use Rattle.refusal.specs.declared.Refusal.{Refusal}
+use Rattle.refusal.proofs.AnswerLaws.{refused-above_zero}
 use Rattle.refusal.specs.Judging.{unless}
 use Rattle.refusal.specs.Numbers.{accepted, room_refused}
 use Rattle.curve.specs.Lists.{Lists}
@@ -13,17 +17,10 @@ use Rattle.grid.specs.Limits.{svg_most}
 use Rattle.digits.specs.Put.{Put}
 use Rattle.digits.proofs.PutLaws.{two-second, two-joined}
 use Rattle.lines.specs.Lines.{line_end, refused_line}
-use Rattle.lines.proofs.LengthLaws.{refused_line-most}
 use Rattle.svg_out.specs.Svg.{svg_text, draw_then, draw_number, fitting, svg_number, SvgOutcome}
-use Rattle.svg_out.specs.declared.SvgAnswer.TheVariants.{Written, Refused}
 use Rattle.svg_whole.proofs.DrawLaws.{draw-refused}
 use Rattle.svg_whole.proofs.TextLaws.{svg-within-most}
-use Rattle.round_trip.proofs.AnswerLaws.{answered-value, answered-number}
 use Rattle.svg_text.specs.Text.{drawn_text}
-
--- an answer says how many bytes were written, or a number
-apart : (n number : ℕ) → Written n ≡ Refused number → ⊥
-apart n number e = let z : ◌≡◌ {A = ℕ} 0 1 = cc in omega arith
 
 module _ (m : ℕ) (c : Lists) where
   -- the text of each of both
@@ -43,20 +40,17 @@ module _ (m : ℕ) (c : Lists) where
           | no refused ↦ draw-refused m c (fitting (svg_text m c) out) refused
         ]
 
-    module _ (n : ℕ) (now : List ℕ) (w : SvgOutcome m c out (Written n) now) where
-      known : (svg_number m c out ≡ 0) × (Written n ≡ Written (length (svg_text m c)))
-      known = answered-value Written Refused (Written n) (λ number. apart n number) (svg_number m c out) (length (svg_text m c)) w.answers
+    module _ (n : ℕ) (now : List ℕ) (w : SvgOutcome m c out (Ok n) now) where
+      none-there : svg_number m c out ≡ 0
+      none-there = sym w.answers.0
 
       none-refused : draw_number m c ≡ accepted
-      none-refused = sym number_same ∙ known.0
+      none-refused = sym number_same ∙ none-there
 
       path-put : Put out 0 (svg_text m c) now n
       path-put =
-          let none = known.0 in
-          let written = known.1 in
-          let long : n ≡ length (svg_text m c) = cc in
           let front : 0 + length (svg_text m c) ≡ length (svg_text m c) = omega arith in
-          record { holds = w.hands ∙ rw (none, front); place = omega arith }
+          record { holds = w.hands ∙ rw (none-there, front); place = omega (arith, w.answers.1) }
 
       both-fit : 0 + length (svg_text m c ++ line_end) ≤ length out
       both-fit = omega (arith, length-append (svg_text m c) line_end, svg-within-most m c none-refused, room)
@@ -68,24 +62,21 @@ module _ (m : ℕ) (c : Lists) where
       pub drawn-put : (end : List ℕ) (r : ℕ) → Put now n line_end end r → Put out 0 (drawn_text m c) end r
       drawn-put end r put = rw (drawn none-refused) (two-joined out 0 (svg_text m c) line_end both-fit path-put put)
 
-    module _ (number : ℕ) (now : List ℕ) (w : SvgOutcome m c out (Refused number) now) where
-      refusal : (svg_number m c out ≡ 0 → ⊥) × (Refused number ≡ Refused (svg_number m c out))
-      refusal = answered-number Written Refused (Refused number) (λ n e. apart n number (sym e)) (svg_number m c out) (length (svg_text m c)) w.answers
-
-      same : number ≡ svg_number m c out
-      same = let told = refusal.1 in cc
+    module _ (refusal : Refusal) (now : List ℕ) (w : SvgOutcome m c out (Err refusal) now) where
+      some-refused : svg_number m c out ≡ 0 → ⊥
+      some-refused none = omega (arith, refused-above_zero refusal, w.answers.0, none)
 
       -- a refusal leaves the list as it was
       list-kept : now ≡ out
-      list-kept = w.hands ∙ rw (ne_eqb (svg_number m c out) 0 refusal.0)
+      list-kept = w.hands ∙ rw (ne_eqb (svg_number m c out) 0 some-refused)
 
       -- there is room for its line, and that is the text
-      pub line-fits : number < 10 ^ 10 → 0 + length (refused_line number) ≤ length now
-      line-fits small = omega (arith, refused_line-most number small, room, ap length list-kept)
+      pub line-room : svg_most < length now
+      line-room = omega (arith, room, ap length list-kept)
 
-      line-drawn : drawn_text m c ≡ refused_line number
+      line-drawn : drawn_text m c ≡ refused_line (number_of refusal)
       unfolding drawn_text
-      line-drawn = rw (same, sym number_same, ne_eqb (svg_number m c out) 0 refusal.0)
+      line-drawn = rw (w.answers.0, sym number_same, ne_eqb (svg_number m c out) 0 some-refused)
 
-      pub line-put : (end : List ℕ) (r : ℕ) → Put now 0 (refused_line number) end r → Put out 0 (drawn_text m c) end r
-      line-put end r put = rw line-drawn (subst (λ l. Put l 0 (refused_line number) end r) list-kept put)
+      pub line-put : (end : List ℕ) (r : ℕ) → Put now 0 (refused_line (number_of refusal)) end r → Put out 0 (drawn_text m c) end r
+      line-put end r put = rw line-drawn (subst (λ l. Put l 0 (refused_line (number_of refusal)) end r) list-kept put)

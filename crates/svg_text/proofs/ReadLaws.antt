@@ -5,7 +5,11 @@ use Prim.Native.Nat.{ℕ, ◌+◌, ◌≤◌}
 use native.Mathlib.Omega.{arith}
 use lib.ListN.{length, take, drop, length-append, take-append-drop}
 use borrow.Author.Tests.{ne_eqb}
+use Rattle.std.specs.Prelude.{Err}
 use Rattle.refusal.specs.Numbers.{accepted}
+use Rattle.refusal.specs.Answers.{number_of}
+use Rattle.refusal.specs.declared.Refusal.{Refusal}
+use Rattle.refusal.proofs.AnswerLaws.{refused-above_zero}
 use Rattle.curve.specs.Lists.{Lists}
 use Rattle.curve.proofs.RoomLaws.{enough-all}
 use Rattle.grid.specs.Check.{check_number}
@@ -15,14 +19,15 @@ use Rattle.format.specs.Format.{form1, Storable}
 use Rattle.format.proofs.SizeLaws.{length-knots, length-coordinates}
 use Rattle.fault.specs.Fault.{Fault}
 use Rattle.fault.specs.Kinds.{lone_records}
-use Rattle.fault.specs.Verdict.{Verdict}
+use Rattle.fault.specs.Verdict.{Verdict, judged}
 use Rattle.fault.proofs.WithinLaws.{fault-most}
 use Rattle.breaks.proofs.LoneLaws.{record-whole}
 use Rattle.record.specs.Reading as reading
-use Rattle.record.specs.Reading.{record_number, read_answer, RecordComesTo, RecordRead}
-use Rattle.record.specs.declared.ReadAnswer.TheVariants.{Curve, Broken, Refused}
-use Rattle.round_trip.specs.RoundTrip.{front_of}
-use Rattle.round_trip.proofs.AnswerLaws.{answered-number}
+use Rattle.record.specs.Reading.{record_number, RecordComesTo, RecordRead}
+use Rattle.taken_field.specs.declared.Break.{Break}
+use Rattle.taken_field.specs.declared.Failure.TheVariants.{Broken, Refused}
+use Rattle.stored_check.proofs.ToldLaws.{judged_apart, judged_number}
+use Rattle.round_trip.specs.RoundTrip.{front_of, read_as}
 use Rattle.round_trip.proofs.RecordTrip.{Stored, read-stored, records-short, faults-exactly}
 use Rattle.round_trip.proofs.StorableLaws.{passes-storable}
 use Rattle.svg_out.specs.Svg.{draw_number}
@@ -37,13 +42,6 @@ use Rattle.svg_text.specs.Program.{Places, TextInFront}
 -- a front that is as long as it should be lies within its list
 front-within : {A : Type 0} (n : ℕ) (l : List A) → length (take n l) ≡ n → n ≤ length l
 front-within n l e = omega (arith, e, length-append (take n l) (drop n l), ap length (take-append-drop n l))
-
--- a refusal is neither a curve nor a break
-refused-curve : (number m n : ℕ) → Refused number ≡ Curve m n → ⊥
-refused-curve number m n e = let z : ◌≡◌ {A = ℕ} 0 1 = cc in omega arith
-
-refused-broken : (n number place : ℕ) → Refused n ≡ Broken number place → ⊥
-refused-broken n number place e = let z : ◌≡◌ {A = ℕ} 0 1 = cc in omega arith
 
 -- a line on a refused curve is its text
 drawn-refused : (m : ℕ) (c : Lists) (number : ℕ) → (number ≡ accepted → ⊥) → number ≡ check_number m c.knots c.xs c.ys → refused_line number ≡ drawn_text m c
@@ -63,7 +61,7 @@ module _ (bytes : List ℕ) where
 
   module _ (before now : Lists) where
     -- bytes that are a record with a sound curve: it stands at the fronts of the lists
-    module _ (m n : ℕ) (read : RecordRead bytes before (Curve m n) now) where
+    module _ (m n : ℕ) (read : RecordRead bytes before (read_as m n) now) where
       abbrev curve : Lists
       curve = front_of m n now
 
@@ -83,11 +81,11 @@ module _ (bytes : List ℕ) where
           in-front put (text.is_record (record { m = m; c = curve; storable = passes-storable m curve stored.passes; same = stored.same }) refl)
 
     -- bytes that are none
-    module _ (number place : ℕ) (read : RecordRead bytes before (Broken number place) now) where
-      pub broken-fault : Fault lone_records bytes number place
-      broken-fault = (faults-exactly bytes before (Broken number place) now number place read).0 refl
+    module _ (found : Break) (read : RecordRead bytes before (Err (Broken found)) now) where
+      pub broken-fault : Fault lone_records bytes (number_of found.refusal) found.place
+      broken-fault = (faults-exactly bytes before (Err (Broken found)) now (number_of found.refusal) found.place read).0 refl
 
-      pub broken-text : {lent end : List ℕ} {r : ℕ} → Put lent 0 (broken_line number place) end r → TextInFront bytes end r
+      pub broken-text : {lent end : List ℕ} {r : ℕ} → Put lent 0 (broken_line (number_of found.refusal) found.place) end r → TextInFront bytes end r
       broken-text put = in-front put (text.is_broken broken-fault refl)
 
     -- bytes that are a record with a curve that the check refuses
@@ -101,15 +99,13 @@ module _ (bytes : List ℕ) where
           (omega (arith, s.x_room, length-coordinates c.xs, places.on_x))
           (omega (arith, s.y_room, length-coordinates c.ys, places.on_y)))
 
-      refused-by : (number : ℕ) {verdict : Verdict} {m : ℕ} {c : Lists} → RecordComesTo bytes before verdict m c
-          → Refused number ≡ read_answer verdict m (length c.xs) → SvgTextOf bytes (refused_line number)
-      refused-by number (reading.is_broken {number = n} {place = place} f m c) e = absurd (refused-broken number n place e)
-      refused-by number (reading.is_record w) e =
-          let judged = record_number w.m w.c before in
-          let a = answered-number (Curve w.m) Refused (Refused number) (λ n. refused-curve number w.m n) judged (length w.c.xs) e in
-          let told : Refused number ≡ Refused judged = a.1 in
-          let same : number ≡ judged = cc in
-          text.is_record w (drawn-refused w.m w.c number (λ none. a.0 (sym same ∙ none)) (same ∙ number_same w.m w.c w.storable))
+      refused-by : (refusal : Refusal) {verdict : Verdict} {m : ℕ} {c : Lists} → RecordComesTo bytes before verdict m c
+          → judged (number_of refusal) ≡ verdict → SvgTextOf bytes (refused_line (number_of refusal))
+      refused-by refusal (reading.is_broken {number = n} {place = place} f m c) e = absurd (judged_apart (number_of refusal) n place e)
+      refused-by refusal (reading.is_record w) e =
+          let same : number_of refusal ≡ record_number w.m w.c before = judged_number (number_of refusal) (record_number w.m w.c before) e in
+          text.is_record w
+          (drawn-refused w.m w.c (number_of refusal) (λ none. omega (arith, refused-above_zero refusal, none)) (same ∙ number_same w.m w.c w.storable))
 
-      pub refused-text : (number : ℕ) → RecordRead bytes before (Refused number) now → {lent end : List ℕ} {r : ℕ} → Put lent 0 (refused_line number) end r → TextInFront bytes end r
-      refused-text number read put = in-front put (refused-by number read.comes_to read.answers)
+      pub refused-text : (refusal : Refusal) → RecordRead bytes before (Err (Refused refusal)) now → {lent end : List ℕ} {r : ℕ} → Put lent 0 (refused_line (number_of refusal)) end r → TextInFront bytes end r
+      refused-text refusal read put = in-front put (refused-by refusal read.comes_to read.answers.0)

@@ -2,17 +2,51 @@
 #![tactic(auto)]
 
 ghost use Rattle.std.specs.Prelude.{◌+◌, ◌≤◌, ◌<◌, length};
+ghost use Rattle.refusal.specs.Answers.{number_of};
 ghost use Rattle.curve.specs.Lists.{lists};
-ghost use Rattle.grid.specs.Limits.{svg_most};
+ghost use Rattle.grid.specs.Limits.{record_most, svg_most};
 ghost use Rattle.digits.specs.Put.{Put};
+ghost use Rattle.lines.specs.Lines.{line_end, refused_line, broken_line};
 ghost use Rattle.round_trip.specs.RoundTrip.{front_of};
 ghost use Rattle.svg_text.specs.Text.{drawn_text};
 ghost use Rattle.svg_text.specs.Program.{Places, TextInFront};
 
-use record::ReadAnswer;
-use svg_out::SvgAnswer;
+use digits::Pen;
+use record::StoredCurve;
+use refusal::Refusal;
+use taken_field::{Break, Failure};
 
 pub const TEXT_MOST: usize = grid::SVG_MOST + 1;
+
+// The line on a refusal.
+fn put_refusal(refusal: Refusal, text: &mut [u8]) -> usize
+    requires { svg_most < length text.old }
+    ensures result { Put text.old 0 (refused_line (number_of refusal)) text.new result }
+{
+    let mut pen = Pen { out: text, at: 0 };
+    lines::put_refused_line(&mut pen, u32::from(refusal));
+    pen.at
+}
+
+// The line on bytes that break.
+fn put_break(found: Break, text: &mut [u8]) -> usize
+    requires { (found.place ≤ record_most) × (svg_most < length text.old) }
+    ensures result { Put text.old 0 (broken_line (number_of found.refusal) found.place) text.new result }
+{
+    let mut pen = Pen { out: text, at: 0 };
+    lines::put_broken_line(&mut pen, u32::from(found.refusal), found.place as u32);
+    pen.at
+}
+
+// The end of the line that path data is.
+fn put_newline(text: &mut [u8], at: usize) -> usize
+    requires { at < length text.old }
+    ensures result { Put text.old at line_end text.new result }
+{
+    let mut pen = Pen { out: text, at };
+    pen.byte(b'\n');
+    pen.at
+}
 
 // The text of a curve.
 fn put_drawing(degree: u32, knots: &[u16], xs: &[i32], ys: &[i32], text: &mut [u8]) -> usize
@@ -21,27 +55,27 @@ fn put_drawing(degree: u32, knots: &[u16], xs: &[i32], ys: &[i32], text: &mut [u
         text.new result }
 {
     match svg_out::write_svg(degree, knots, xs, ys, text) {
-        SvgAnswer::Written(length) => digits::put_byte(text, length, b'\n'),
-        SvgAnswer::Refused(number) => lines::put_refused_line(text, 0, number),
+        Ok(length) => put_newline(text, length),
+        Err(refusal) => put_refusal(refusal, text),
     }
 }
 
 // The text of a curve that was read into the fronts of the lists.
-fn put_read(
-    degree: u32,
-    points: usize,
-    knots: &[u16],
-    xs: &[i32],
-    ys: &[i32],
-    text: &mut [u8],
-) -> usize
-    requires degree_in_bounds { (points + degree + 1 ≤ length knots.now) × (points ≤ length xs.now) × (points ≤ length ys.now) }
-    requires svg_most_in_bounds { svg_most < length text.old }
+fn put_read(stored: StoredCurve, knots: &[u16], xs: &[i32], ys: &[i32], text: &mut [u8]) -> usize
+    requires fronts { (stored.points + stored.degree + 1 ≤ length knots.now) × (stored.points ≤ length xs.now) × (stored.points ≤ length ys.now) }
+    requires room { svg_most < length text.old }
     ensures result { Put text.old 0
-        (drawn_text degree (front_of degree points (lists knots.now xs.now ys.now))) text.new result }
+        (drawn_text stored.degree (front_of stored.degree stored.points (lists knots.now xs.now ys.now))) text.new result }
 {
-    let end = points + degree as usize + 1;
-    put_drawing(degree, &knots[..end], &xs[..points], &ys[..points], text)
+    let points = stored.points;
+    let end = points + stored.degree as usize + 1;
+    put_drawing(
+        stored.degree,
+        &knots[..end],
+        &xs[..points],
+        &ys[..points],
+        text,
+    )
 }
 
 // Reads a record into places for the longest curve, puts its text at the front of the list, and answers how many bytes it put.
@@ -56,13 +90,8 @@ pub fn put_text(
     ensures result { TextInFront bytes.now text.new result }
 {
     match record::read_record(bytes, knots, xs, ys) {
-        ReadAnswer::Curve { degree, points } => put_read(degree, points, knots, xs, ys, text),
-        ReadAnswer::Broken { number, place } => lines::put_broken_line(
-            text,
-            0,
-            number,
-            place as u32,
-        ),
-        ReadAnswer::Refused(number) => lines::put_refused_line(text, 0, number),
+        Ok(stored) => put_read(stored, knots, xs, ys, text),
+        Err(Failure::Broken(found)) => put_break(found, text),
+        Err(Failure::Refused(refusal)) => put_refusal(refusal, text),
     }
 }

@@ -1,51 +1,30 @@
 -- By what reading answered: the curve's text, the line on the break, or the line on the refusal.
-use native.Mathlib.Omega.{arith}
 use Rattle.curve.specs.Lists.{lists}
-use Rattle.lines.proofs.LengthLaws.{refused_line-most, broken_line-most}
 use Rattle.svg_text.proofs.ReadLaws.{place-most, fronts-within, curve-text, broken-fault, broken-text, refused-text}
 use Rattle.svg_text.proofs.put_text.Goals as goal
 
-pub put_read-requires : goal.put_read-requires
-put_read-requires c =
-    let call = c.read_record in let a = c.args in
-    let before = lists a.knots.now a.xs.now a.ys.now in
-    let now = lists call.new.out_knots call.new.out_xs call.new.out_ys in record { degree_in_bounds = fronts-within a.bytes.now before now _ _ (rw c.in-Curve.is at call.ensures.answer); svg_most_in_bounds = c.requires.on_text }
+pub put_read-requires-clause-fronts : goal.put_read-requires-clause-fronts
+put_read-requires-clause-fronts c = let a = c.args in
+    fronts-within a.bytes.now (lists a.knots.now a.xs.now a.ys.now) _ c.in-Ok.stored.degree c.in-Ok.stored.points c.in-Ok.ensures.answer
 
-pub overflow_cast-place : goal.overflow_cast-place
-overflow_cast-place c = let call = c.read_record in let a = c.args in
-    let before = lists a.knots.now a.xs.now a.ys.now in
-    let now = lists call.new.out_knots call.new.out_xs call.new.out_ys in
-    omega (arith, place-most a.bytes.now (broken-fault a.bytes.now before now _ _ (rw c.in-Broken.is at call.ensures.answer)))
+pub put_break-requires : goal.put_break-requires
+put_break-requires c = let a = c.args in
+    (place-most a.bytes.now (broken-fault a.bytes.now (lists a.knots.now a.xs.now a.ys.now) _ c.in-Err-Broken.found (rw c.in-Err-Broken.field-0-is at c.in-Err-Broken.ensures.answer)), c.requires.on_text)
 
-pub put_broken_line-requires : goal.put_broken_line-requires
-put_broken_line-requires c = let call = c.read_record in let a = c.args in
-    let before = lists a.knots.now a.xs.now a.ys.now in
-    let now = lists call.new.out_knots call.new.out_xs call.new.out_ys in
-    omega (arith, c.requires.on_text, broken_line-most c.in-Broken.number c.in-Broken.place (omega arith) (omega (arith, place-most a.bytes.now (broken-fault a.bytes.now before now _ _ (rw c.in-Broken.is at call.ensures.answer)))))
-
-pub put_refused_line-requires : goal.put_refused_line-requires
-put_refused_line-requires c = omega (arith, c.requires.on_text, refused_line-most c.in-Refused.number (omega arith))
-
-pub returns-in-Curve : goal.returns-in-Curve
-returns-in-Curve c = record {
-  result = let call = c.read_record in let a = c.args in
-      let before = lists a.knots.now a.xs.now a.ys.now in
-      let now = lists call.new.out_knots call.new.out_xs call.new.out_ys in
-      curve-text a.bytes.now before now _ _ (rw c.in-Curve.is at call.ensures.answer) c.put_read.ensures.result;
+pub returns-in-Ok : goal.returns-in-Ok
+returns-in-Ok c = record {
+  result = let a = c.args in
+      curve-text a.bytes.now (lists a.knots.now a.xs.now a.ys.now) _ c.in-Ok.stored.degree c.in-Ok.stored.points c.in-Ok.ensures.answer c.put_read.ensures.result;
 }
 
-pub returns-in-Broken : goal.returns-in-Broken
-returns-in-Broken c = record {
-  result = let call = c.read_record in let a = c.args in
-      let before = lists a.knots.now a.xs.now a.ys.now in
-      let now = lists call.new.out_knots call.new.out_xs call.new.out_ys in
-      broken-text a.bytes.now before now _ _ (rw c.in-Broken.is at call.ensures.answer) c.put_broken_line.ensures.result;
+pub returns-in-Err-Broken : goal.returns-in-Err-Broken
+returns-in-Err-Broken c = record {
+  result = let a = c.args in
+      broken-text a.bytes.now (lists a.knots.now a.xs.now a.ys.now) _ c.in-Err-Broken.found (rw c.in-Err-Broken.field-0-is at c.in-Err-Broken.ensures.answer) c.put_break.ensures.result;
 }
 
-pub returns-in-Refused : goal.returns-in-Refused
-returns-in-Refused c = record {
-  result = let call = c.read_record in let a = c.args in
-      let before = lists a.knots.now a.xs.now a.ys.now in
-      let now = lists call.new.out_knots call.new.out_xs call.new.out_ys in
-      refused-text a.bytes.now before now a.text.now c.requires _ (rw c.in-Refused.is at call.ensures.answer) c.put_refused_line.ensures.result;
+pub returns-in-Err-Refused : goal.returns-in-Err-Refused
+returns-in-Err-Refused c = record {
+  result = let a = c.args in
+      refused-text a.bytes.now (lists a.knots.now a.xs.now a.ys.now) _ a.text.now c.requires c.in-Err-Refused.refusal (rw c.in-Err-Refused.field-0-is at c.in-Err-Refused.ensures.answer) c.put_refusal.ensures.result;
 }
