@@ -26,13 +26,13 @@ pub fn span_width(knots: &[u16], i: usize) -> u16
     knots[i + 1] - knots[i]
 }
 
-// The width of the last two spans, where the domain ends at knot `count`.
-fn two_spans(knots: &[u16], count: usize) -> u16
-    requires never_fall { NeverFall knots.now }
-    requires le_count { (2 ≤ count) × (count < length knots.now) }
-    ensures answer { result ≡ get_or knots.now count 0 - get_or knots.now (count - 2) 0 }
+// The width of the last two spans.
+fn two_spans(end: RightEnd<'_>) -> u16
+    ensures answer { result ≡ get_or end.entry.knots.now (length end.entry.points.now) 0
+        - get_or end.entry.knots.now (length end.entry.points.now - 2) 0 }
 {
-    span_width(knots, count - 2) + span_width(knots, count - 1)
+    let count = end.points.len();
+    span_width(end.knots, count - 2) + span_width(end.knots, count - 1)
 }
 
 // Above the line of the last point but one, of degree 3: at most 2^48 either way.
@@ -67,7 +67,7 @@ fn above_of_three(end: RightEnd<'_>, k: usize) -> i64
 {
     let ps = end.points;
     let count = ps.len();
-    let two = two_spans(end.knots, count);
+    let two = two_spans(end);
     let p = ps[count - 2];
     let second = second_above(two, span_width(end.knots, count - 1), p, ps[count - 3]);
     if k == 1 {
@@ -97,5 +97,5 @@ pub fn below(end: RightEnd<'_>, k: usize) -> u16
     if end.degree == 2 {
         return 1;
     }
-    two_spans(end.knots, end.points.len())
+    two_spans(end)
 }

@@ -15,5 +15,5 @@ returns-then-not-point_fits c = record {
 pub returns : goal.returns
 returns c = record {
   answer = let a = c.args in
-      let l = c.loop-k in points-accept a.end.degree a.end.knots.now a.end.points.now a.end.ending c.requires (λ k i. l.invariant.1 k (omega (arith, c.loop-k-test.false)));
+      let l = c.loop-k in points-accept a.end.degree a.end.knots.now a.end.points.now a.end.ending c.requires (λ k i. l.invariant k (omega (arith, c.loop-k-test.false)));
 }

@@ -10,8 +10,9 @@ use Rattle.unclamp_parts.proofs.PointLaws.{fits_both}
 use borrow.Author.Rules.{sfits_of}
 use Rattle.unclamp_parts.proofs.writing.new_point.Goals as goal
 
-pub quotient-requires : goal.quotient-requires
-quotient-requires c =
+pub quotient-requires-clause-d_bound : goal.quotient-requires-clause-d_bound
+quotient-requires-clause-d_bound c =
     let a = c.args in
     let n = open_number (finish_of a.end.knots.now a.end.points.now) a.end.degree a.k in
-    let u = c.above in record { d_nonzero = c.below.ensures.some; d_bound = rw (to_z-of_z w64 u.result (sfits_of u.type_inv), u.ensures.answer, c.below.ensures.answer) (omega (arith, size-of-grid (whole_of n) (fits_both n c.requires.k_value).1)) }
+    let u = c.above in
+    rw (to_z-of_z w64 u.result (sfits_of u.type_inv), u.ensures.answer, c.below.ensures.answer) (omega (arith, size-of-grid (whole_of n) (fits_both n c.requires.k_value).1))

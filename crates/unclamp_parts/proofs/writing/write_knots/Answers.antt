@@ -12,22 +12,19 @@ use Rattle.unclamp_parts.proofs.writing.write_knots.Goals as goal
 
 pub loop-k-init : goal.loop-k-init
 loop-k-init c = let a = c.args in
-    let first = c.copy_into in (omega arith, omega arith, stored-anew (knots-stored a.curve.degree a.curve.knots.now (length a.curve.xs.now) a.out.now first.new.to c.requires.knots_ending c.requires.knots_in_bounds first.ensures.result))
+    let first = c.copy_into in stored-anew (knots-stored a.curve.degree a.curve.knots.now (length a.curve.xs.now) a.out.now first.new.to c.requires.knots_ending c.requires.knots_in_bounds first.ensures.result)
 
 pub loop-k-preserved : goal.loop-k-preserved
 loop-k-preserved c = let a = c.args in
     let l = c.loop-k in let place : (length a.curve.xs.now) + l.k + 1 ≡ (length a.curve.xs.now) + (l.k + 1) = omega arith in
-    let inside : (length a.curve.xs.now) + l.k < length a.curve.knots.now = omega (arith, c.loop-k-test.true, c.requires.knots_ending.places) in (
-      omega arith,
-      omega (arith, c.loop-k-test.true),
-      rw place at (stored_more l.invariant.2 c.new_knot.result 0 (rw (entries-length (open_knot a.curve.knots.now (length a.curve.xs.now)) (length a.curve.knots.now)) inside)
-          (entries_at (open_knot a.curve.knots.now (length a.curve.xs.now)) (length a.curve.knots.now) ((length a.curve.xs.now) + l.k) 0 inside ∙ sym c.new_knot.ensures.answer)),
-    )
+    let inside : (length a.curve.xs.now) + l.k < length a.curve.knots.now = omega (arith, c.loop-k-test.true, c.requires.knots_ending.places) in
+    rw place at (stored_more l.invariant c.new_knot.result 0 (rw (entries-length (open_knot a.curve.knots.now (length a.curve.xs.now)) (length a.curve.knots.now)) inside)
+    (entries_at (open_knot a.curve.knots.now (length a.curve.xs.now)) (length a.curve.knots.now) ((length a.curve.xs.now) + l.k) 0 inside ∙ sym c.new_knot.ensures.answer))
 
 pub returns : goal.returns
 returns c = record {
   result = let a = c.args in
       let l = c.loop-k in let first = c.copy_into in stored-all
-      (stored-since (knots-stored a.curve.degree a.curve.knots.now (length a.curve.xs.now) a.out.now first.new.to c.requires.knots_ending c.requires.knots_in_bounds first.ensures.result) (omega (arith, l.invariant.0)) l.invariant.2)
+      (stored-since (knots-stored a.curve.degree a.curve.knots.now (length a.curve.xs.now) a.out.now first.new.to c.requires.knots_ending c.requires.knots_in_bounds first.ensures.result) (omega arith) l.invariant)
       (omega (arith, c.loop-k-test.false, c.requires.knots_ending.places, entries-length (open_knot a.curve.knots.now (length a.curve.xs.now)) (length a.curve.knots.now)));
 }

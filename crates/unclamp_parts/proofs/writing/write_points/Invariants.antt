@@ -1,9 +1,7 @@
 -- The points in front are copied, and the last m - 1 are stored one by one (the invariant).
-use Prim.Native.Nat.{◌+◌, ◌-◌, ◌≤◌}
-use lib.ListN.{length}
 use Rattle.lent.proofs.StoreLaws.{Stored}
 use Rattle.unclamping.specs.Unclamping.{open_points}
 use Rattle.unclamp_parts.proofs.writing.write_points.Given as goal
 
 abbrev pub invariant-loop-j : goal.invariant-loop-j
-invariant-loop-j l = (length l.end.points.now + 1 - l.end.degree ≤ l.j) × (l.j ≤ length l.end.points.now) × Stored (open_points l.end.degree l.end.knots.now l.end.points.now) l.initial.out l.out l.j
+invariant-loop-j l = Stored (open_points l.end.degree l.end.knots.now l.end.points.now) l.initial.out l.out l.j
