@@ -15,7 +15,7 @@ pub(crate) fn put_curve(pen: &mut Pen<'_>, curve: Curve<'_>)
         pen.new.out.now pen.new.at }
     ensures name { pen.new.out.ghost_name ≡ pen.old.out.ghost_name }
 {
-    let spans = span_walk::count_spans(curve);
+    let spans = span_walk::count_spans(curve.knots, curve.degree, curve.xs.len());
     lines::put_curve_line(
         pen,
         curve.degree as u32,
