@@ -9,6 +9,7 @@ ghost use Rattle.job.specs.JobReading.{JobJudged, JobRead};
 use curve::Lent;
 use layout::Layout;
 use refusal::Refusal;
+use stored_curve::Stored;
 use taken_field::{Break, Failure};
 
 // The lengths of a job's fields of knots, x and y, and the number of its clamps.
@@ -62,7 +63,11 @@ pub fn read_job(
     let layout = job_layout(bytes)?;
     let curve = layout.curve;
     let count = layout.clamps;
-    stored_check::curve_number(bytes, curve)?;
+    let stored = Stored {
+        bytes,
+        layout: curve,
+    };
+    stored_check::curve_number(stored)?;
     let end = format::BEFORE_Y + curve.knots + curve.xs + curve.ys;
     let radius = cutter::radius_in(bytes, end);
     refusal::require(grid::radius_ok(radius), Refusal::Radius)?;
@@ -74,10 +79,10 @@ pub fn read_job(
         xs: out_xs,
         ys: out_ys,
     };
-    stored_curve::hand_over(bytes, curve, into)?;
+    stored.hand_over(into)?;
     clamps::read_clamps(bytes, start, count, clamps);
     Ok(Job {
-        degree: stored_curve::degree_in(bytes),
+        degree: stored.degree(),
         points: curve.xs / 4,
         radius,
         clamps: count,

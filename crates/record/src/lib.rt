@@ -11,6 +11,7 @@ ghost use Rattle.record.specs.Writing.{write_number, WriteAnswers};
 use checked::Curve;
 use curve::Lent;
 use refusal::Refusal;
+use stored_curve::Stored;
 use taken_field::Failure;
 
 // Degree and number of points of a curve that was read.
@@ -53,15 +54,16 @@ pub fn read_record(
         (lists out_knots.new out_xs.new out_ys.new) }
 {
     let layout = layout::whole_record(bytes)?;
-    stored_check::curve_number(bytes, layout)?;
+    let stored = Stored { bytes, layout };
+    stored_check::curve_number(stored)?;
     let into = Lent {
         knots: out_knots,
         xs: out_xs,
         ys: out_ys,
     };
-    stored_curve::hand_over(bytes, layout, into)?;
+    stored.hand_over(into)?;
     Ok(StoredCurve {
-        degree: stored_curve::degree_in(bytes),
+        degree: stored.degree(),
         points: layout.xs / 4,
     })
 }

@@ -48,11 +48,8 @@ returns-in_err-layout c = record {
   answer = broken_read c.args.bytes.now _ _ c.in_err-layout.field-0.0 (job-fault c.args.bytes.now (λ i. (c.type_inv.bytes i).fits) c.in_err-layout.field-0.0 (search rules)) _ (search rules);
 }
 
-pub curve_number-requires : goal.curve_number-requires
-curve_number-requires c = (bounds (goal.at.curve_number-requires c).In_ok-layout).laid
-
-pub hand_over-requires : goal.hand_over-requires
-hand_over-requires c = (bounds (goal.at.hand_over-requires c).In_ok-layout).laid
+pub invariant_of-stored : goal.invariant_of-stored
+invariant_of-stored c = record { sound = (bounds (goal.at.invariant_of-stored c).In_ok-layout).laid }
 
 pub overflow_add-end : goal.overflow_add-end
 overflow_add-end c = omega (arith, bounds (goal.at.overflow_add-end c).In_ok-layout)
@@ -74,9 +71,6 @@ clamps_ok-requires c = omega (arith, bounds (goal.at.clamps_ok-requires c).In_ok
 
 pub overflow_mul-count : goal.overflow_mul-count
 overflow_mul-count c = omega (arith, bounds (goal.at.overflow_mul-count c).In_ok-layout)
-
-pub degree_in-requires : goal.degree_in-requires
-degree_in-requires c = omega (arith, bounds (goal.at.degree_in-requires c).In_ok-layout)
 
 pub read_clamps-requires : goal.read_clamps-requires
 read_clamps-requires c =
@@ -134,6 +128,6 @@ returns c = record {
       read_done c.args.bytes.now (octets_in (goal.at.returns c).In_ok-layout) _ _ l.curve.knots l.curve.xs l.curve.ys l.clamps (known (goal.at.returns c).In_ok-layout)
       (search rules) (sym told ∙ required-passed _ _ _ c.in_ok-require.ensures.answer)
       (sym c.clamps_ok.ensures.answer ∙ required-passed _ _ _ c.in_ok-require-2.ensures.answer)
-      (required-passed _ _ _ c.in_ok-require-3.ensures.answer) (search rules) _ _ c.degree_in.ensures.answer c.radius_in-radius.ensures.answer
+      (required-passed _ _ _ c.in_ok-require-3.ensures.answer) (search rules) _ _ c.degree.ensures.answer c.radius_in-radius.ensures.answer
       _ c.in_ok-hand_over.ensures.result _ c.read_clamps.ensures.result;
 }

@@ -1,9 +1,7 @@
 -- Sound bytes are the record of the lists in them, others are nobody's.
 use Rattle.std.proofs.Common.{rules, ◌≡◌, Ok}
 use mathlib.Core.Path.{sym}
-use native.Mathlib.Omega.{arith}
 use Rattle.layout.specs.Judging.{whole_record}
-use Rattle.layout.proofs.SplitLaws.{layout-inside}
 use Rattle.layout.proofs.WholeLaws.{whole-lone}
 use Rattle.record.proofs.ReadLaws.{read_broken, read_unchecked, read_cramped, read_done}
 use Rattle.record.proofs.read_record.Goals.{In_ok-layout}
@@ -17,8 +15,8 @@ returns-in_err-layout c = record {
   answer = read_broken c.args.bytes.now (λ i. (c.type_inv.bytes i).fits) _ c.in_err-layout.field-0.0 (search rules) _ (search rules);
 }
 
-pub curve_number-requires : goal.curve_number-requires
-curve_number-requires c = (whole-lone _ _ _ _ (known (goal.at.curve_number-requires c).In_ok-layout)).layout
+pub invariant_of-stored : goal.invariant_of-stored
+invariant_of-stored c = record { sound = (whole-lone _ _ _ _ (known (goal.at.invariant_of-stored c).In_ok-layout)).layout }
 
 pub returns-in_err-curve_number : goal.returns-in_err-curve_number
 returns-in_err-curve_number c = record {
@@ -27,9 +25,6 @@ returns-in_err-curve_number c = record {
       _ c.in_err-curve_number.field-0.0 (search rules) (search rules);
 }
 
-pub hand_over-requires : goal.hand_over-requires
-hand_over-requires c = (whole-lone _ _ _ _ (known (goal.at.hand_over-requires c).In_ok-layout)).layout
-
 pub returns-in_err-hand_over : goal.returns-in_err-hand_over
 returns-in_err-hand_over c = record {
   answer = let l = c.in_ok-layout.layout in
@@ -37,14 +32,9 @@ returns-in_err-hand_over c = record {
       (search rules) _ c.in_err-hand_over.field-0.0 (search rules) (search rules) _ c.in_err-hand_over.ensures.result;
 }
 
-pub degree_in-requires : goal.degree_in-requires
-degree_in-requires c =
-    let l = c.in_ok-layout.layout in
-    omega (arith, layout-inside c.args.bytes.now l.knots l.xs l.ys (whole-lone _ _ _ _ (known (goal.at.degree_in-requires c).In_ok-layout)).layout)
-
 pub returns : goal.returns
 returns c = record {
   answer = let l = c.in_ok-layout.layout in
       read_done c.args.bytes.now (λ i. (c.type_inv.bytes i).fits) _ l.knots l.xs l.ys (known (goal.at.returns c).In_ok-layout)
-      (search rules) (search rules) _ c.degree_in.ensures.answer _ c.in_ok-hand_over.ensures.result;
+      (search rules) (search rules) _ c.degree.ensures.answer _ c.in_ok-hand_over.ensures.result;
 }

@@ -8,7 +8,6 @@ use Rattle.curve.proofs.ListLaws.{same-knots, same-xs, same-ys}
 use Rattle.curve.proofs.RoomLaws.{enough-each}
 use Rattle.fields.proofs.PlaceLaws.{over-front}
 use Rattle.grid.specs.Check.{check_number}
-use Rattle.layout.proofs.SplitLaws.{layout-inside}
 use Rattle.layout.proofs.StoredLaws.{stored-knots, stored-xs, stored-ys}
 use native.Mathlib.Omega.{arith}
 use Rattle.stored_check.proofs.check_in.Goals.{Start}
@@ -18,11 +17,8 @@ same : {m n : ℕ} {ts ss : List ℕ} {xs us ys ws : List ℤ} → m ≡ n → t
 same a b c d = cc
 
 room : (s : Start)
-    → (s.args.layout.knots / 2 ≤ length s.args.ts.now) × (s.args.layout.xs / 4 ≤ length s.args.us.now) × (s.args.layout.ys / 4 ≤ length s.args.ws.now)
-room s = enough-each (s.args.layout.knots / 2) (s.args.layout.xs / 4) (s.args.layout.ys / 4) (length s.args.ts.now) (length s.args.us.now) (length s.args.ws.now) s.requires.room
-
-pub degree_in-degree-requires : goal.degree_in-degree-requires
-degree_in-degree-requires c = omega (arith, layout-inside c.args.bytes.now c.args.layout.knots c.args.layout.xs c.args.layout.ys c.requires.bytes_value)
+    → (s.args.stored.layout.knots / 2 ≤ length s.args.ts.now) × (s.args.stored.layout.xs / 4 ≤ length s.args.us.now) × (s.args.stored.layout.ys / 4 ≤ length s.args.ws.now)
+room s = enough-each (s.args.stored.layout.knots / 2) (s.args.stored.layout.xs / 4) (s.args.stored.layout.ys / 4) (length s.args.ts.now) (length s.args.us.now) (length s.args.ws.now) s.requires.room
 
 pub slice_bounds-check-end : goal.slice_bounds-check-end
 slice_bounds-check-end c = omega (arith, room (goal.at.slice_bounds-check-end c).Start, c.read_lists.auto)
@@ -47,7 +43,7 @@ returns c = record {
   answer = let a = c.args in
       let read = c.read_lists.ensures.result in
       c.check.ensures.answer
-      ∙ same c.degree_in-degree.ensures.answer (over-front _ a.ts.now _ _ (stored-knots a.bytes.now a.layout.knots a.layout.xs a.layout.ys) (same-knots read))
-      (over-front _ a.us.now _ _ (stored-xs a.bytes.now a.layout.knots a.layout.xs a.layout.ys) (same-xs read))
-      (over-front _ a.ws.now _ _ (stored-ys a.bytes.now a.layout.knots a.layout.xs a.layout.ys) (same-ys read));
+      ∙ same c.degree.ensures.answer (over-front _ a.ts.now _ _ (stored-knots a.stored.bytes.now a.stored.layout.knots a.stored.layout.xs a.stored.layout.ys) (same-knots read))
+      (over-front _ a.us.now _ _ (stored-xs a.stored.bytes.now a.stored.layout.knots a.stored.layout.xs a.stored.layout.ys) (same-xs read))
+      (over-front _ a.ws.now _ _ (stored-ys a.stored.bytes.now a.stored.layout.knots a.stored.layout.xs a.stored.layout.ys) (same-ys read));
 }
