@@ -8,7 +8,7 @@ ghost use Rattle.grid.specs.Rows.{rectangle_ok, radius_ok};
 ghost use Rattle.boxes.specs.Meeting.{meets_on_axis};
 ghost use Rattle.boxes.specs.Widening.{widened};
 
-// A rectangle with closed sides.
+// A rectangle with closed sides: four, and no two ranges, since the C call takes four and the statements on boxes name each.
 #[derive(Clone, Copy, PartialEq, Eq, Debug)]
 pub struct Rectangle {
     pub low_x: i32,
