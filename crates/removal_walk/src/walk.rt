@@ -1,4 +1,5 @@
-// The points between the two sides: a walk from the left, which must agree with the right side where it ends.
+// The points between the two sides: a walk from the left, which must agree with the right side where it ends. m, ks, ps and v stay
+// apart: no two of the parts ask the same of them, and one takes no ps.
 ghost use Rattle.std.specs.Prelude.{◌≡◌, ◌+◌, ◌-◌, ◌≤◌, ◌<◌, length};
 ghost use Rattle.insertion.specs.Insertion.{insertion_span};
 ghost use Rattle.insertion.specs.Standing.{Weighed};
