@@ -12,7 +12,8 @@ fn first_points(curve: Curve<'_>) -> usize
     insertion_parts::knots_up_to(curve.knots, curve.knots[curve.degree])
 }
 
-// The first points and their knots, at the front of the lent lists. Answers how many points these are.
+// The first points and their knots, at the front of the lent lists. Answers how many points these are. Three lists: tried over a Lent, and the start of
+// the caller's loop did not close.
 #[tactic(auto, using(crate::proofs::FirstLaws::first_reach))]
 pub(crate) fn copy_first(
     curve: Curve<'_>,

@@ -25,7 +25,7 @@ fn close(m: usize, knots: &[u16]) -> [u16; 8]
     ]
 }
 
-// One try, one axis after the other, given the fewer knots and lists for the new points.
+// One try, one axis after the other, given the fewer knots and lists for the new points. The lists stay apart, since a try is lent a part of each.
 fn remove_by_axes(
     m: usize,
     knots: &mut [u16],
