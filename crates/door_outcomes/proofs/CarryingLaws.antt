@@ -10,8 +10,8 @@ use Rattle.span.specs.Span.{span_of}
 use Rattle.domain.specs.Parameter.{parameter_number}
 use Rattle.domain.proofs.ParameterLaws.{accepted-within}
 use Rattle.carrying.specs.Carrying.{on_axis}
-use Rattle.carrying.specs.declared.Axis.{Axis}
-use Rattle.carrying.specs.declared.Axis.TheVariants.{X, Y}
+use Rattle.checked.specs.declared.Axis.{Axis}
+use Rattle.checked.specs.declared.Axis.TheVariants.{X, Y}
 use Rattle.tsaghnobir.specs.Places.{first_carrying}
 use Rattle.door_outcomes.specs.Exports.{FirstFindsCarrying}
 

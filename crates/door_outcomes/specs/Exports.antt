@@ -14,7 +14,7 @@ use Rattle.feed.specs.Ending.{Holds}
 use Rattle.bursts.specs.Bursts.{joined}
 use Rattle.domain.specs.Parameter.{parameter_number}
 use Rattle.carrying.specs.Carrying.{on_axis, part_of}
-use Rattle.carrying.specs.declared.Axis.{Axis}
+use Rattle.checked.specs.declared.Axis.{Axis}
 use Rattle.tsaghnobir.specs.Places.{placed, first_carrying, JobPlaces}
 use Rattle.tsaghnobir.specs.Outcomes.{RemovalHandsBack, CompactionHandsBack, RecordHandsBack, JobHandsBack, FeedHandsBack}
 

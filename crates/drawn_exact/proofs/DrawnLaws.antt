@@ -11,8 +11,8 @@ use Rattle.curve.specs.Lists.{Lists}
 use Rattle.grid.specs.Check.{Passes}
 use Rattle.checked.specs.Checked.{Checked, Clamped}
 use Rattle.checked.proofs.CheckedLaws.{checked-of-passes}
-use Rattle.carrying.specs.declared.Axis.{Axis}
-use Rattle.carrying.specs.declared.Axis.TheVariants.{X, Y}
+use Rattle.checked.specs.declared.Axis.{Axis}
+use Rattle.checked.specs.declared.Axis.TheVariants.{X, Y}
 use Rattle.span.specs.Span.{in_domain}
 use Rattle.span.proofs.SentenceLaws.{domain-exactly}
 use Rattle.span_walk.specs.SpansMet.{keep, spans_of, non_empty, span_count}

@@ -3,7 +3,7 @@
 use Rattle.std.specs.Prelude.{◌≡◌, ℕ, ◌+◌, ◌<◌, length, get_or}
 use Rattle.refusal.specs.Numbers.{accepted}
 use Rattle.curve.specs.Lists.{Lists}
-use Rattle.carrying.specs.declared.Axis.{Axis}
+use Rattle.checked.specs.declared.Axis.{Axis}
 use Rattle.clamping.specs.Clamping.{clamped}
 use Rattle.cutting.specs.Pieces.{piece_count, pieces}
 use Rattle.cutting.specs.declared.Piece.{Piece}

@@ -5,7 +5,7 @@ use native.Mathlib.Omega.{arith}
 use lib.IntN.{pos}
 use lib.ListN.{length}
 use Rattle.curve.specs.Lists.{Lists, lists}
-use Rattle.carrying.specs.declared.Axis.TheVariants.{X, Y}
+use Rattle.checked.specs.declared.Axis.TheVariants.{X, Y}
 use Rattle.span.specs.Span.{span_of, strictly_inside}
 use Rattle.signed.specs.Division.{divides}
 use Rattle.fractions.specs.Fraction.{over, whole, sum, product, negation, turned, reciprocal}

@@ -6,8 +6,8 @@ use native.Mathlib.Omega.{arith}
 use lib.ListN.{length}
 use Rattle.refusal.specs.Numbers.{accepted}
 use Rattle.curve.specs.Lists.{Lists}
-use Rattle.carrying.specs.declared.Axis.{Axis}
-use Rattle.carrying.specs.declared.Axis.TheVariants.{X, Y}
+use Rattle.checked.specs.declared.Axis.{Axis}
+use Rattle.checked.specs.declared.Axis.TheVariants.{X, Y}
 use Rattle.grid.specs.Check.{Passes}
 use Rattle.grid.proofs.SizeLaws.{sizes-of-passes}
 use Rattle.checked.specs.Checked.{Clamped}

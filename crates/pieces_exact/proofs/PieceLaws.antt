@@ -13,7 +13,7 @@ use lib.IntN.{ℤ}
 use lib.ListN.{length, get_or}
 use Rattle.refusal.specs.Numbers.{accepted}
 use Rattle.curve.specs.Lists.{Lists}
-use Rattle.carrying.specs.declared.Axis.{Axis}
+use Rattle.checked.specs.declared.Axis.{Axis}
 use Rattle.checked.specs.Checked.{Clamped}
 use Rattle.span.specs.Span.{in_domain}
 use Rattle.span.proofs.SentenceLaws.{domain-exactly}

@@ -11,7 +11,7 @@ use lib.IntN.{ℤ}
 use lib.ListN.{length, get_or}
 use Rattle.refusal.specs.Numbers.{accepted}
 use Rattle.curve.specs.Lists.{Lists}
-use Rattle.carrying.specs.declared.Axis.{Axis}
+use Rattle.checked.specs.declared.Axis.{Axis}
 use Rattle.checked.specs.Checked.{Checked, Clamped}
 use Rattle.checked.proofs.CheckedLaws.{checked-of-passes}
 use Rattle.span.specs.Span.{IsSpan, span_of}

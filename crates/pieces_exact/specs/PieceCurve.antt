@@ -5,7 +5,7 @@ use Rattle.refusal.specs.Numbers.{accepted}
 use Rattle.curve.specs.Lists.{Lists}
 use Rattle.checked.specs.Checked.{Clamped}
 use Rattle.carrying.specs.Carrying.{on_axis}
-use Rattle.carrying.specs.declared.Axis.{Axis}
+use Rattle.checked.specs.declared.Axis.{Axis}
 use Rattle.fractions.specs.Order.{Equals}
 use Rattle.exact.specs.ExactCurve.{exact_at}
 use Rattle.insertion.specs.Insertion.{point_at}
