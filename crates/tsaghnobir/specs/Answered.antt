@@ -20,15 +20,15 @@ failure_placed (Broken found) held = (number_of found.refusal, found.place)
 failure_placed (Refused refusal) held = (number_of refusal, held)
 
 -- what reading a record answers, as a number and as what the single numbers for degree, points and place hold then
-abbrev pub record_placed : Result StoredCurve Failure → ℕ × ℕ × ℕ → ℕ × ℕ × ℕ × ℕ
-record_placed (Ok found) held = (accepted, found.degree, found.points, held.2)
+abbrev pub record_placed : Result StoredCurve Failure → ℕ × ℕ × ℕ → ℕ × (ℕ × ℕ × ℕ)
+record_placed (Ok found) held = (accepted, (found.degree, found.points, held.2))
 record_placed (Err failure) held =
     let told = failure_placed failure held.2 in
-    (told.0, held.0, held.1, told.1)
+    (told.0, (held.0, held.1, told.1))
 
 -- what reading a job answers, as a number and as what the single numbers hold then
 abbrev pub job_placed : Result Job Failure → JobPlaces → ℕ × JobPlaces
-job_placed (Ok found) held = (accepted, found.degree, found.points, found.radius, found.clamps, held.4)
+job_placed (Ok found) held = (accepted, (found.degree, found.points, found.radius, found.clamps, held.4))
 job_placed (Err failure) held =
     let told = failure_placed failure held.4 in
-    (told.0, held.0, held.1, held.2, held.3, told.1)
+    (told.0, (held.0, held.1, held.2, held.3, told.1))

@@ -90,7 +90,7 @@ fn place_record(
     points: &mut usize,
     place: &mut usize,
 ) -> u32
-    ensures answer { (result, degree.new, points.new, place.new)
+    ensures answer { (result, (degree.new, points.new, place.new))
         ≡ record_placed answer (degree.old, points.old, place.old) }
 {
     match answer {
@@ -112,7 +112,7 @@ pub(crate) fn place_job(
     clamp_count: &mut usize,
     place: &mut usize,
 ) -> u32
-    ensures answer { (result, degree.new, points.new, radius.new, clamp_count.new, place.new)
+    ensures answer { (result, (degree.new, points.new, radius.new, clamp_count.new, place.new))
         ≡ job_placed answer (degree.old, points.old, radius.old, clamp_count.old, place.old) }
 {
     match answer {
