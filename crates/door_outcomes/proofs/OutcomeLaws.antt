@@ -83,7 +83,7 @@ record-determined bytes before held n k now then holds instead p q =
     let degrees : placed n p.m held.0 ≡ placed k q.m held.0 = rw (p.answers, q.answers) (same.2 held.0) in
     let points : placed n (length p.c.xs) held.1 ≡ placed k (length q.c.xs) held.1 = rw (p.answers, q.answers) (same.3 held.1) in
     let place : place_or p.verdict held.2 ≡ place_or q.verdict held.2 = ap (λ (v : Verdict). place_or v held.2) same.0 in
-    (p.answers ∙ ap number_of same.0 ∙ sym q.answers, p.hands ∙ lists ∙ sym q.hands, p.places ∙ rw (degrees, points, place) ∙ sym q.places)
+    (p.answers ∙ ap number_of same.0 ∙ sym q.answers, p.hands ∙ lists ∙ sym q.hands, p.places ∙ (rw (degrees, points, place)) ∙ sym q.places)
 
 both-same : {A B : Type 0} (v w : A × B) → v.0 ≡ w.0 → v.1 ≡ w.1 → v ≡ w
 both-same (a, b) (c, d) p q = rw (p, q)
@@ -131,5 +131,5 @@ job-determined bytes before sides held n k now then holds instead p q =
     let place : place_or p.verdict held.4 ≡ place_or q.verdict held.4 = ap (λ (v : Verdict). place_or v held.4) same.0 in (
       p.answers ∙ ap number_of same.0 ∙ sym q.answers,
       both-same now then (p.hands ∙ lists ∙ sym q.hands) (p.clamps_now ∙ clamps ∙ sym q.clamps_now),
-      p.places ∙ rw (degrees, points, radii, counts, place) ∙ sym q.places,
+      p.places ∙ (rw (degrees, points, radii, counts, place)) ∙ sym q.places,
     )
