@@ -29,11 +29,6 @@ module _ (number : ℕ) (result before : Lists) where
   pub outcome-clamped : number ≡ 0 → (count : ℕ) → count ≡ length result.xs → (now : Lists) → now ≡ handed_over 0 result before → Outcome number result before (Ok count) now
   outcome-clamped z count long now h = record { answers = (sym z, long); hands = rw z h }
 
--- a test that is asked for has failed where its refusal came of it
-pub not-required : (fine : Bool) (refusal e : Refusal) → Err e ≡ required fine refusal → (fine ≡ false) × (e ≡ refusal)
-not-required false refusal e h = search rules
-not-required true refusal e h = search rules
-
 -- a curve whose points all carry: row 11, then row 15
 module _ (m : ℕ) (d before : Lists) where
   abbrev Whole : Bool

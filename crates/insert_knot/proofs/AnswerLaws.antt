@@ -6,7 +6,7 @@ use Rattle.refusal.specs.Numbers.{room_refused}
 use Rattle.refusal.specs.Answers.{number_of, number_in, required}
 use Rattle.refusal.specs.declared.Refusal.{Refusal}
 use Rattle.refusal.specs.declared.Refusal.TheVariants.{Room}
-use Rattle.refusal.proofs.AnswerLaws.{refused-above_zero}
+use Rattle.refusal.proofs.AnswerLaws.{refused-above_zero, not-required}
 use Rattle.curve.specs.Lists.{Lists}
 use Rattle.curve.specs.HandingOver.{enough, handed_over, room_for, room_number}
 use Rattle.curve.proofs.HandingLaws.{handed_over-refused}
@@ -15,11 +15,6 @@ use Rattle.insertion.specs.Insertion.{inserted}
 use Rattle.insertion.specs.Judged.{insertable_then, insertion_number}
 use Rattle.insertion.proofs.JudgedLaws.{judged-refused, judged-passed, number-refused, number_passed, inserted-room}
 use Rattle.insert_knot.specs.Answer.{InsertOutcome}
-
--- row 15 as the code asks it: a refusal is this one, for the test has failed
-short-of-error : (fits : Bool) (e : Refusal) → Err e ≡ required fits Room → (fits ≡ false) × (number_of e ≡ room_refused)
-short-of-error true e h = let above = refused-above_zero e in let z : number_of e ≡ 0 = ap number_in h in absurd (omega arith)
-short-of-error false e h = (refl, ap number_in h)
 
 module _ (m : ℕ) (c : Lists) (v : ℕ) (before : Lists) where
   -- refused with the number of the insertion, and nothing written
@@ -56,9 +51,9 @@ module _ (m : ℕ) (c : Lists) (v : ℕ) (before : Lists) where
         → Err e ≡ required (enough (length c.knots + 1) (length c.xs + 1) (length c.ys + 1) (length before.knots) (length before.xs) (length before.ys)) Room
         → InsertOutcome m c v before answer before
     outcome_cramped answer e is short =
-        let s = short-of-error _ e short in
+        let s = not-required _ Room e short in
         let fails : room_for (inserted m c v) before ≡ false = sym (inserted-room m c v before) ∙ s.0 in
-        outcome-refused answer e is (s.1 ∙ rw fails at room-is)
+        outcome-refused answer e is (ap number_of s.1 ∙ rw fails at room-is)
 
     pub outcome_inserted : enough (length c.knots + 1) (length c.xs + 1) (length c.ys + 1) (length before.knots) (length before.xs) (length before.ys) ≡ true
         → (now : Lists) → now ≡ handed_over 0 (inserted m c v) before → InsertOutcome m c v before (Ok (length c.xs + 1)) now

@@ -6,7 +6,7 @@ use Rattle.refusal.specs.Numbers.{room_refused}
 use Rattle.refusal.specs.Answers.{number_of, number_in, required}
 use Rattle.refusal.specs.declared.Refusal.{Refusal}
 use Rattle.refusal.specs.declared.Refusal.TheVariants.{Room}
-use Rattle.refusal.proofs.AnswerLaws.{refused-above_zero}
+use Rattle.refusal.proofs.AnswerLaws.{refused-above_zero, not-required}
 use Rattle.curve.specs.Lists.{Lists}
 use Rattle.curve.specs.HandingOver.{enough, handed_over, room_for, room_number}
 use Rattle.curve.proofs.HandingLaws.{handed_over-refused}
@@ -15,11 +15,6 @@ use Rattle.joining.specs.SplinePoints.{SplinePoints}
 use Rattle.joining.specs.Answer.{joined_lists, joinable_then, join_number, JoinOutcome}
 use Rattle.joining.proofs.StandingLaws.{joinable-of, joinable-refused, joinable-passed}
 use Rattle.joining.proofs.RoomLaws.{room-is}
-
--- row 15 as the code asks it: a refusal is this one, for the test has failed
-short-of-error : (fits : Bool) (e : Refusal) → Err e ≡ required fits Room → (fits ≡ false) × (number_of e ≡ room_refused)
-short-of-error true e h = let above = refused-above_zero e in let z : number_of e ≡ 0 = ap number_in h in absurd (omega arith)
-short-of-error false e h = (refl, ap number_in h)
 
 module _ (inner : ℕ) (s : SplinePoints) (before : Lists) where
   -- refused with the number of the joining, and nothing written
@@ -54,10 +49,10 @@ module _ (inner : ℕ) (s : SplinePoints) (before : Lists) where
         → Err e ≡ required (enough (points_are + 4) points_are points_are (length before.knots) (length before.xs) (length before.ys)) Room
         → JoinOutcome inner s before answer before
     outcome_cramped answer e is short =
-        let t = short-of-error _ e short in
+        let t = not-required _ Room e short in
         let fails : room_for (joined_lists inner s) before ≡ false = room-is inner least s before some ∙ t.0 in
         let room : room_refused ≡ room_number (joined_lists inner s) before = rw fails refl in
-        outcome-refused answer e is (t.1 ∙ room ∙ number-is)
+        outcome-refused answer e is (ap number_of t.1 ∙ room ∙ number-is)
 
     pub outcome_joined : enough (points_are + 4) points_are points_are (length before.knots) (length before.xs) (length before.ys) ≡ true
         → (now : Lists) → now ≡ handed_over 0 (joined_lists inner s) before → JoinOutcome inner s before (Ok points_are) now

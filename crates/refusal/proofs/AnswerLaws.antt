@@ -2,6 +2,7 @@
 use Rattle.std.specs.Prelude.{Bool, true, false, List, [], ◌∷◌, Result, Ok, Err, ◌≡◌, ℕ, ◌<◌, get_or}
 use mathlib.Core.Path.{refl, sym, ap, ◌∙◌}
 use native.Mathlib.Omega.{arith}
+use Rattle.std.proofs.Common.{rules}
 use Rattle.refusal.specs.Numbers.{accepted}
 use Rattle.refusal.specs.Answers.{number_of, number_in, Answers, required}
 use Rattle.refusal.specs.declared.Refusal.{Refusal}
@@ -67,16 +68,6 @@ refused-above_zero LeftOver = omega arith
 refused-above_zero Radius = omega arith
 refused-above_zero Unclamp = omega arith
 
--- an answer with the number 0 has a value
-pub accepted-value : {A : Type 0} (answer : Result A Refusal) → number_in answer ≡ 0 → (x : A) × (answer ≡ Ok x)
-accepted-value (Ok x) h = (x, refl)
-accepted-value (Err e) h = let above : 0 < number_of e = refused-above_zero e in absurd (omega arith)
-
--- one with another number has none
-pub refused-error : {A : Type 0} (answer : Result A Refusal) → 0 < number_in answer → (e : Refusal) × (answer ≡ Err e)
-refused-error (Ok x) h = absurd (omega arith)
-refused-error (Err e) h = (e, refl)
-
 -- number 0: the answer is the value
 pub answers-value : {A : Type 0} (number : ℕ) (value : A) (answer : Result A Refusal) → Answers number value answer → number ≡ 0 → answer ≡ Ok value
 answers-value number value (Ok x) h z = ap Ok h.1
@@ -100,3 +91,8 @@ required-passed true refusal x h = refl
 required-passed false refusal x h =
     let e : accepted ≡ number_of refusal = ap number_in h in
     let above : 0 < number_of refusal = refused-above_zero refusal in absurd (omega arith)
+
+-- a refusal that came of it is the one that it stands for, and the test has failed
+pub not-required : (fine : Bool) (refusal e : Refusal) → Err e ≡ required fine refusal → (fine ≡ false) × (e ≡ refusal)
+not-required false refusal e h = search rules
+not-required true refusal e h = search rules

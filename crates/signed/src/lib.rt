@@ -1,14 +1,7 @@
-// Casts and products of coordinates and knots, in a width in which sums of them fit. The laws on signed numbers stand in proofs/.
+// Products of knots and coordinates, in a width in which sums of them fit. The laws on signed numbers stand in proofs/.
 #![tactic(auto)]
 
 ghost use Rattle.std.specs.Prelude.{◌≡◌, pos, ◌*ℤ◌};
-
-// The same number, 64 bits wide.
-pub fn wide(z: i32) -> i64
-    ensures answer { result ≡ z }
-{
-    i64::from(z)
-}
 
 // A knot's 16 bits times a coordinate's 32: at most 2^47 either way, so neither the product nor the sum of two wraps.
 pub fn product(a: u16, z: i32) -> i64

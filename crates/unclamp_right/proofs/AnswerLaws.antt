@@ -25,8 +25,3 @@ module _ (m : ℕ) (c before : Lists) where
 
   pub outcome-unclamped : unclamp_number m c before ≡ 0 → (now : Lists) → now ≡ handed_over 0 (unclamped m c) before → UnclampOutcome m c before (Ok (length c.xs)) now
   outcome-unclamped z now h = record { answers = (sym z, refl); hands = rw z h }
-
--- a test that is asked for has failed where its refusal came of it
-pub not-required : (fine : Bool) (refusal e : Refusal) → Err e ≡ required fine refusal → (fine ≡ false) × (e ≡ refusal)
-not-required false refusal e h = search rules
-not-required true refusal e h = search rules

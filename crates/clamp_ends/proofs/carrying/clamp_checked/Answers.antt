@@ -11,7 +11,8 @@ use Rattle.curve.specs.Lists.{Lists, lists}
 use Rattle.curve.proofs.ListLaws.{lists-same}
 use Rattle.curve.proofs.RoomLaws.{enough-each}
 use Rattle.clamping.proofs.ClampedLaws.{points-length}
-use Rattle.clamp_ends.proofs.AnswerLaws.{outcome-of-part, outcome-refused, outcome-clamped, part-not-whole, part-without-room, part-accepted, not-required}
+use Rattle.refusal.proofs.AnswerLaws.{not-required}
+use Rattle.clamp_ends.proofs.AnswerLaws.{outcome-of-part, outcome-refused, outcome-clamped, part-not-whole, part-without-room, part-accepted}
 use Rattle.clamp_ends.proofs.carrying.clamp_checked.Goals.{After-carrying_lines, In_ok-room}
 use Rattle.clamp_ends.proofs.carrying.clamp_checked.Goals as goal
 

@@ -14,7 +14,8 @@ use Rattle.checked.specs.Along.{lists_of}
 use Rattle.unclamping.specs.Unclamping.{unclamped, opens}
 use Rattle.unclamping.proofs.JudgedLaws.{Opens, opens-parts, unclamped-room, number-closed, number-room}
 use Rattle.unclamp_right.proofs.StandingLaws.{knots-ending}
-use Rattle.unclamp_right.proofs.AnswerLaws.{outcome-refused, outcome-unclamped, not-required}
+use Rattle.refusal.proofs.AnswerLaws.{not-required}
+use Rattle.unclamp_right.proofs.AnswerLaws.{outcome-refused, outcome-unclamped}
 use Rattle.unclamp_right.proofs.opening.unclamp_checked.Goals.{Start, Else-not-can_open, In_ok-room}
 use Rattle.unclamp_right.proofs.opening.unclamp_checked.Goals as goal
 
