@@ -20,7 +20,7 @@ from trusted.tables import tables  # noqa: E402
 
 PAGE = TOP / "docs" / "READING.md"
 MADE = re.compile(r"(<!-- made: (\w+) -->\n).*?(<!-- end -->)", re.S)
-MOST_OF_CALLS = 980
+MOST_OF_CALLS = 1020
 
 
 def main(words):
