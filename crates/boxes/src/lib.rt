@@ -22,6 +22,7 @@ pub fn widened(clamp: Rectangle, radius: u32) -> Rectangle
     requires { (rectangle_ok clamp.low_x clamp.high_x clamp.low_y clamp.high_y ≡ true) × (radius_ok radius ≡ true) }
     ensures answer { result ≡ widened radius clamp }
 {
+    // `as`: the radius is at most 4,096, and no From leads from u32 to i32.
     let by = radius as i32;
     Rectangle {
         low_x: clamp.low_x - by,

@@ -43,6 +43,7 @@ impl<'a> Curve<'a> {
             × (c.xs.now ≡ xs.entry.now) × (c.ys.now ≡ ys.entry.now)) }
     {
         grid::check(degree, knots, xs, ys)?;
+        // `as`: no From leads from u32 to usize.
         Ok(Curve {
             degree: degree as usize,
             knots,

@@ -84,6 +84,7 @@ pub fn put_clamp(
     ensures name { pen.new.out.ghost_name ≡ pen.old.out.ghost_name }
 {
     if stands(count, sides, k) {
+        // `as`: there are at most 64 clamps, and no From leads from usize to u32.
         put_met(pen, curve, radius, (k + 1) as u32, clamp_at(sides, k));
     }
 }

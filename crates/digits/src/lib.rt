@@ -16,6 +16,7 @@ pub fn digit_count(number: u32) -> usize
 {
     let mut rest = number;
     let mut count = 1;
+    // A while, since the digits that are left end it.
     while 1000 <= rest {
         rest /= 1000;
         count += 3;

@@ -44,6 +44,7 @@ impl<'a> Pen<'a> {
         let end = self.at + digit_count(number);
         let mut place = end - 1;
         let mut rest = number;
+        // A while, since the digits that are left end it; `as` takes a digit, which is below 256.
         while 10 <= rest {
             self.out[place] = (48 + rest % 10) as u8;
             place -= 1;

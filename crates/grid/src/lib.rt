@@ -62,6 +62,7 @@ pub fn check(degree: u32, knots: &[u16], xs: &[i32], ys: &[i32]) -> Result<(), R
     if !counts::degree_ok(degree) {
         return Err(Refusal::Degree);
     }
+    // `as`: no From leads from u32 to usize.
     let m = degree as usize;
     if !counts::point_count_ok(m, xs, ys) {
         return Err(Refusal::PointCount);

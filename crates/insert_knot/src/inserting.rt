@@ -19,6 +19,7 @@ pub(crate) fn insert_checked(curve: Curve<'_>, v: u32, into: Lent<'_>) -> Result
     if !span::strictly_inside(curve.knots, curve.degree, curve.xs.len(), v) {
         return Err(Refusal::Insertion);
     }
+    // `as`: v lies between two knots, and no From leads to a narrower type.
     let v = v as u16;
     let at = insertion_parts::knots_up_to(curve.knots, v);
     let asked = Asked { curve, v, at };

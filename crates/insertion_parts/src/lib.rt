@@ -31,6 +31,7 @@ pub fn quotient(sum: i64, d: u16) -> i32
     requires d_bound { nat_abs (quot_z sum (pos d)) < 2 ^ 31 }
     ensures answer { result ≡ quot_z sum (pos d) }
 {
+    // `as`: the quotient has 32 bits, and no From leads to a narrower type.
     (sum / i64::from(d)) as i32
 }
 

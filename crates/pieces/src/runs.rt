@@ -11,6 +11,7 @@ pub(crate) fn run_behind(knots: &[u16], i: usize) -> usize
 {
     let v = knots[i + 1];
     let mut s = 1;
+    // A while, since a larger knot ends it and no count.
     while knots[i + s + 1] == v {
         s += 1;
     }

@@ -29,6 +29,7 @@ fn place_at(degree: u32, knots: &[u16], xs: &[i32], ys: &[i32], t: u32) -> Resul
     let curve = domain::check_parameter(degree, knots, xs, ys, t)?;
     let m = curve.degree;
     let i = span::span_of(curve.knots, m, curve.xs.len() - 1, t);
+    // `as`: t is at most a knot, and no From leads to a narrower type.
     let at = t as u16;
     let x = rows::coordinate(curve.knots, curve.xs, m, i, at);
     let y = rows::coordinate(curve.knots, curve.ys, m, i, at);

@@ -18,6 +18,7 @@ fn put_degree(degree: usize, out: &mut [u8])
     ensures result { out.new ≡ put_at out.old 0 (field_bytes degree_tag (degree ∷ [])) }
 {
     fields::put_head(out, 0, format::DEGREE_TAG, 1);
+    // `as`: the degree is below 256, and no From leads to a narrower type.
     out[format::DEGREE_PLACE] = degree as u8;
 }
 

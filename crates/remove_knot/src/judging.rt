@@ -11,6 +11,7 @@ pub(crate) fn inner_ok(curve: Curve<'_>, v: u32) -> bool
     if !span::strictly_inside(curve.knots, curve.degree, curve.xs.len(), v) {
         return false;
     }
+    // `as`: v lies between two knots, and no From leads to a narrower type.
     let value = v as u16;
     insertion_parts::stands(
         1,

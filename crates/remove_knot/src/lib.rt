@@ -42,6 +42,7 @@ pub fn remove_knot(
         xs: fewer_xs,
         ys: fewer_ys,
     };
+    // `as`: v is a knot.
     removal_polygon::remove_polygon(curve, v as u16, without)?;
     let into = Lent {
         knots: out_knots,

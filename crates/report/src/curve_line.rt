@@ -16,6 +16,7 @@ pub(crate) fn put_curve(pen: &mut Pen<'_>, curve: Curve<'_>)
     ensures name { pen.new.out.ghost_name ≡ pen.old.out.ghost_name }
 {
     let spans = span_walk::count_spans(curve.knots, curve.degree, curve.xs.len());
+    // `as`: a curve has at most 1,024 points, and no From leads from usize to u32.
     lines::put_curve_line(
         pen,
         curve.degree as u32,

@@ -37,6 +37,7 @@ fn put_broken(pen: &mut Pen<'_>, fault: Break, k: usize)
     ensures name { pen.new.out.ghost_name ≡ pen.old.out.ghost_name }
 {
     if k == 0 && fault.place <= grid::JOB_MOST {
+        // `as`: the place is at most the longest job, and no From leads from usize to u32.
         lines::put_broken_line(pen, fault.refusal.into(), fault.place as u32);
     }
 }
@@ -82,6 +83,7 @@ fn put_job(
     if xs.len() < points {
         return;
     }
+    // `as`: no From leads from u32 to usize.
     let end = points + job.degree as usize + 1;
     if !curve::room_for(end, points, points, knots.len(), xs.len(), ys.len()) {
         return;

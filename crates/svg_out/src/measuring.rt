@@ -29,6 +29,7 @@ pub(crate) fn measure(curve: Curve<'_>) -> Result<usize, Refusal>
 {
     let mut walk = pieces::start(curve.degree, curve.xs, curve.ys);
     let mut length = 0;
+    // A while, since a step goes on by as many knots as a value has.
     while walk.span < curve.xs.len() {
         let (piece, next) = pieces::next_piece(curve, walk)?;
         length += part_length(curve.degree, walk.index, piece);

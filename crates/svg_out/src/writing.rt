@@ -35,6 +35,7 @@ pub(crate) fn put_path(curve: Curve<'_>, out: &mut [u8])
 {
     let mut pen = Pen { out, at: 0 };
     let mut walk = pieces::start(curve.degree, curve.xs, curve.ys);
+    // A while, since a step goes on by as many knots as a value has.
     while walk.span < curve.xs.len() {
         let Ok((piece, next)) = pieces::next_piece(curve, walk) else {
             return; // never: measuring was refused nothing

@@ -34,6 +34,7 @@ fn put_break(found: Break, text: &mut [u8]) -> usize
     ensures result { Put text.old 0 (broken_line (number_of found.refusal) found.place) text.new result }
 {
     let mut pen = Pen { out: text, at: 0 };
+    // `as`: the place is at most the longest record, and no From leads from usize to u32.
     lines::put_broken_line(&mut pen, u32::from(found.refusal), found.place as u32);
     pen.at
 }
@@ -68,6 +69,7 @@ fn put_read(stored: StoredCurve, knots: &[u16], xs: &[i32], ys: &[i32], text: &m
         (drawn_text stored.degree (front_of stored.degree stored.points (lists knots.now xs.now ys.now))) text.new result }
 {
     let points = stored.points;
+    // `as`: no From leads from u32 to usize.
     let end = points + stored.degree as usize + 1;
     put_drawing(
         stored.degree,
