@@ -1,6 +1,7 @@
 -- Curves whose front stands in working lists and whose rest is still to come, for the inner functions.
 use Rattle.std.specs.Prelude.{Result, Ok, Err, List, ◌++◌, ◌≡◌, ℕ, ◌+◌, ◌-◌, ◌≤◌, ◌<◌, ℤ, nat_abs, length, get_or, take}
 use Rattle.refusal.specs.declared.Refusal.{Refusal}
+use Rattle.refusal.specs.declared.Refusal.TheVariants.{NotRemovable}
 use Rattle.grid.specs.Check.{Passes}
 use Rattle.grid.specs.Limits.{coordinate_most}
 use Rattle.insertion.specs.Insertion.{point_at}
@@ -63,7 +64,7 @@ pub record Fixed (m n : ℕ) (ks : List ℕ) (xs ys : List ℤ) (ks_after : List
 -- one try
 abbrev pub TryOutcome : ℕ → ℕ → List ℕ → List ℤ → List ℤ → List ℕ → List ℤ → List ℤ → Result (Unit {0}) Refusal → Type 0
 TryOutcome m n ks xs ys ks_after xs_after ys_after (Ok removed) = Shorter m n ks xs ys ks_after xs_after ys_after
-TryOutcome m n ks xs ys ks_after xs_after ys_after (Err refusal) = Fixed m n ks xs ys ks_after xs_after ys_after
+TryOutcome m n ks xs ys ks_after xs_after ys_after (Err refusal) = (refusal ≡ NotRemovable) × Fixed m n ks xs ys ks_after xs_after ys_after
 
 -- the newest value v is dealt with: removed while removal is accepted, in every curve that the front begins
 pub record ValueRemoved (m n : ℕ) (ks : List ℕ) (xs ys : List ℤ) (ks_after : List ℕ) (xs_after ys_after : List ℤ) (left : ℕ) : Type 0 where

@@ -2,6 +2,7 @@
 -- and looks at nothing else.
 use Rattle.std.specs.Prelude.{Result, Ok, Err, List, ◌++◌, ◌≡◌, ℕ, ◌+◌, ◌≤◌, ◌<◌, ℤ, length, get_or, take, drop}
 use Rattle.refusal.specs.declared.Refusal.{Refusal}
+use Rattle.refusal.specs.declared.Refusal.TheVariants.{NotRemovable}
 use Rattle.curve.specs.Lists.{NeverFall}
 use Rattle.lent.specs.Lent.{over}
 use Rattle.removal.specs.Axis.{Ranged, AxisReinserts}
@@ -45,4 +46,4 @@ pub record Stuck (m : ℕ) (ts : List ℕ) (xs ys : List ℤ) (ts_after : List �
 -- one try
 abbrev pub WindowOutcome : ℕ → List ℕ → List ℤ → List ℤ → List ℕ → List ℤ → List ℤ → Result (Unit {0}) Refusal → Type 0
 WindowOutcome m ts xs ys ts_after xs_after ys_after (Ok removed) = Closed m ts xs ys ts_after xs_after ys_after
-WindowOutcome m ts xs ys ts_after xs_after ys_after (Err refusal) = Stuck m ts xs ys ts_after xs_after ys_after
+WindowOutcome m ts xs ys ts_after xs_after ys_after (Err refusal) = (refusal ≡ NotRemovable) × Stuck m ts xs ys ts_after xs_after ys_after
