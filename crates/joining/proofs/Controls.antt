@@ -74,8 +74,5 @@ unfolding joinable_then spline_points_ok spline_count_ok counts_agree rises_stri
 either-answers = refl
 
 -- the answer by cases
-joined-four : Answers {A = ℕ} 0 4 (Ok 4)
-joined-four = (refl, refl)
-
-refused-eighteen : Answers {A = ℕ} 18 4 (Err JoinedRange)
-refused-eighteen = (refl, tt)
+joined-or-refused : Answers {A = ℕ} 0 4 (Ok 4) × Answers {A = ℕ} 18 4 (Err JoinedRange)
+joined-or-refused = ((refl, refl), (refl, tt))

@@ -100,10 +100,10 @@ module _ (bytes : List ℕ) (before : Lists) (m n : ℕ) (now : Lists) where
 
 -- writing a curve that passes, where there is room
 written : {n : ℕ} (m : ℕ) (c : Lists) (bytes out : List ℕ) → Stored bytes m n c → length bytes ≤ length out
-    → ((answer : Result ℕ Refusal) → WriteAnswers m c out answer → answer ≡ Ok (length bytes)) × (after (write_number m c out) (record_bytes form1 m c) out ≡ over bytes out)
+    → WriteAnswers m c out (Ok (length bytes)) × (after (write_number m c out) (record_bytes form1 m c) out ≡ over bytes out)
 written m c bytes out s room =
     let zero : write_number m c out ≡ 0 = write_done m c out s.passes (rw s.same at room) in
-    (λ answer h. answers-value (write_number m c out) (length (record_bytes form1 m c)) answer h zero ∙ rw s.same refl, rw (zero, s.same))
+    ((sym zero, ap (λ (l : List ℕ). length l) s.same), rw (zero, s.same))
 
 pub read-writes-back : ReadWritesBack
 read-writes-back bytes before m n now read out room = written m (front_of m n now) bytes out (read-stored bytes before m n now read) room

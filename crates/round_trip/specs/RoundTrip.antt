@@ -39,7 +39,7 @@ WrittenReadsBack =
 abbrev pub ReadWritesBack : Type 0
 ReadWritesBack =
     (bytes : List ℕ) (before : Lists) (m n : ℕ) (now : Lists) → RecordRead bytes before (read_as m n) now → (out : List ℕ) → length bytes ≤ length out
-    → ((answer : Result ℕ Refusal) → WriteAnswers m (front_of m n now) out answer → answer ≡ Ok (length bytes))
+    → WriteAnswers m (front_of m n now) out (Ok (length bytes))
     × (after (write_number m (front_of m n now) out) (record_bytes form1 m (front_of m n now)) out ≡ over bytes out)
 
 -- bytes that read to one curve are equal

@@ -114,10 +114,12 @@ module _ (m n : ℕ) (ks : List ℕ) (xs ys : List ℤ) (g : Growing m n ks xs y
         range_xs = after-range s xs wx s.px room_x s.on_x.count s.new_xs g.range_xs s.on_x.range;
         range_ys = after-range s ys wy s.py room_y s.on_y.count s.new_ys g.range_ys s.on_y.range;
       }
-  try-outcome (Err refusal) s =
-      record {
-        stays = λ rk rx ry p. tail-stays m n ks xs ys g last rk rx ry p wk wx wy s;
-        same_knots = put_same (n - m - 2) (n + m + 1 - (n - m - 2)) ks wk s.same_knots;
-        same_xs = put_same (n - m - 2) (n - (n - m - 2)) xs wx s.same_xs;
-        same_ys = put_same (n - m - 2) (n - (n - m - 2)) ys wy s.same_ys;
-      }
+  try-outcome (Err refusal) (e, s) = (
+    e,
+    record {
+      stays = λ rk rx ry p. tail-stays m n ks xs ys g last rk rx ry p wk wx wy s;
+      same_knots = put_same (n - m - 2) (n + m + 1 - (n - m - 2)) ks wk s.same_knots;
+      same_xs = put_same (n - m - 2) (n - (n - m - 2)) xs wx s.same_xs;
+      same_ys = put_same (n - m - 2) (n - (n - m - 2)) ys wy s.same_ys;
+    },
+  )

@@ -8,7 +8,7 @@ pub returns-in-Err : goal.returns-in-Err
 returns-in-Err c = record {
   answer = let a = c.args in
       let l = c.loop-knots in let o = c.remove_one_knot in
-      going-fixed a.m a.n a.knots.now a.xs.now a.ys.now c.requires (get_or a.knots.now (a.n - 1) 0) l.knots l.xs l.ys l.left l.invariant c.loop-knots-test.true o.new.knots o.new.xs o.new.ys c.in-Err.ensures.answer;
+      going-fixed a.m a.n a.knots.now a.xs.now a.ys.now c.requires (get_or a.knots.now (a.n - 1) 0) l.knots l.xs l.ys l.left l.invariant c.loop-knots-test.true o.new.knots o.new.xs o.new.ys c.in-Err.ensures.answer.1;
 }
 
 pub loop-knots-preserved : goal.loop-knots-preserved
