@@ -62,6 +62,8 @@ fn carrying_lines<'a>(curve: Curve<'a>) -> (Line<'a>, Line<'a>)
 }
 
 // Clamps a curve, or answers 11 or 15 and leaves the lent lists as they were found.
+// Inlined: a struct that is handed over in memory would take the stack past what the header tells.
+#[inline(always)]
 pub fn clamp_checked(curve: Curve<'_>, into: Lent<'_>) -> Result<usize, Refusal>
     ensures answer { ClampOutcome curve.entry.degree (lists_of curve.entry)
         (lists into.entry.knots.now into.entry.xs.now into.entry.ys.now) result

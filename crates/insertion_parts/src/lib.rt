@@ -43,6 +43,8 @@ fn first_above(knots: &[u16], v: u16) -> Option<usize>
 }
 
 // The number of knots before the first one above v.
+// Not inlined: its loop would cost the export stack while all lists are at hand.
+#[inline(never)]
 pub fn knots_up_to(knots: &[u16], v: u16) -> usize
     ensures answer { result ≡ knots_up_to v knots.now }
 {
@@ -61,6 +63,8 @@ pub fn stands(times: usize, knots: &[u16], v: u16, at: usize) -> bool
 }
 
 // The knots with v among them, behind the first `at` of them, written to `out`.
+// Not inlined: its loop would cost the export stack while all lists are at hand.
+#[inline(never)]
 pub fn insert_value(knots: &[u16], v: u16, at: usize, out: &mut [u16])
     requires at_value { at ≡ knots_up_to v knots.now }
     requires knots_in_bounds { length knots.now + 1 ≤ length out.old }
@@ -134,6 +138,8 @@ impl Inserting<'_> {
     }
 
     // All of Q, written to `out`: the points in front of the quotients, the quotients, and the points behind them.
+    // Inlined: a struct that is handed over in memory would take the stack past what the header tells.
+    #[inline(always)]
     pub fn insert_points(self, out: &mut [i32])
         requires { length self.ps.now + 1 ≤ length out.old }
         ensures result { out.new ≡ over (inserted_points self.entry.degree self.entry.knots.now self.entry.ps.now self.entry.v) out.old }

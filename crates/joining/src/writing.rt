@@ -10,6 +10,8 @@ use joined_curve::Meeting;
 use refusal::Refusal;
 
 // Writes it, or refuses it by 15 and leaves the lent lists as they were found. The answer is the number of its points.
+// Inlined: a struct that is handed over in memory would take the stack past what the header tells.
+#[inline(always)]
 pub(crate) fn write_joined(
     points: SplinePoints<'_>,
     meeting: Meeting,

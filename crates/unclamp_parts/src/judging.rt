@@ -49,6 +49,8 @@ fn point_fits(end: RightEnd<'_>, k: usize) -> bool
 }
 
 // Whether every point of one axis is whole and on the grid: the last m - 1 decide.
+// Inlined: a struct that is handed over in memory would take the stack past what the header tells.
+#[inline(always)]
 pub fn points_open(end: RightEnd<'_>) -> bool
     requires { all_on_grid end.points.now ≡ true }
     ensures answer { result ≡ opens_on end.entry.degree end.entry.knots.now end.entry.points.now }

@@ -48,6 +48,8 @@ fn new_point(end: RightEnd<'_>, k: usize) -> i32
 }
 
 // The points of one axis: those in front, and the last m - 1.
+// Inlined: a struct that is handed over in memory would take the stack past what the header tells.
+#[inline(always)]
 pub fn write_points(end: RightEnd<'_>, out: &mut [i32])
     requires ps_value { opens_on end.degree end.knots.now end.points.now ≡ true }
     requires ps_in_bounds { length end.points.now ≤ length out.old }
