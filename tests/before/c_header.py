@@ -52,7 +52,8 @@ for name in sorted(exported.keys() | declared.keys()):
 refusals = (root / "crates/refusal/src/lib.rt").read_text()
 numbers = {re.sub(r"(?<=[a-z])(?=[A-Z])", "_", name).upper(): number for name, number in re.findall(r"^    (\w+) = (\d+),$", refusals, re.M)}
 named = {name: value for name, value in re.findall(r"TSB_(\w+) = (\d+)", bare)}
-numbers["OK"] = "0"
+accepted = (root / "crates/refusal/specs/Numbers.antt").read_text()
+numbers["OK"] = re.search(r"^accepted = (\d+)$", accepted, re.M)[1]
 if numbers != named:
     faults.append(f"refusal numbers: {sorted(numbers.items() ^ named.items())}")
 library = limits()

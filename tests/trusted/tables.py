@@ -38,7 +38,8 @@ def summed(files, clauses, found):
     text = f"{sum(files.values()):,} lines in {len(files)} files"
     text += f", beside {len(clauses)} lines of contracts" if clauses else ""
     declared = types(found)
-    return text + (f" and the types {declared}.\n" if declared else ".\n")
+    kind = "types" if "," in declared else "type"
+    return text + (f" and the {kind} {declared}.\n" if declared else ".\n")
 
 
 def tables(parts):

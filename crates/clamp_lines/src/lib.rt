@@ -49,7 +49,7 @@ fn put_met(pen: &mut Pen<'_>, curve: Curve<'_>, radius: u32, number: u32, clamp:
 }
 
 // Whether clamp k, counted from 0, is one of the first `count`, a job may have it, and the list has its sides.
-fn stands(count: usize, sides: &[i32], k: usize) -> bool
+pub fn stands(count: usize, sides: &[i32], k: usize) -> bool
     ensures answer { result ≡ standing count sides.now k }
 {
     k < count && k < grid::CLAMPS_MOST && 4 * k + 4 <= sides.len()

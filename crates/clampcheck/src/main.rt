@@ -36,9 +36,10 @@ fn write_parts(
     requires { ReadInPlaces job.now answer (lists knots.now xs.now ys.now) sides.now × (text_most ≤ length text.old) }
     ensures count { result ≡ clamps_most + 1 }
 {
+    let told = report::told(answer);
     let mut written = 0;
     for k in 0..grid::CLAMPS_MOST + 1 {
-        let n = report::put_part(answer, knots, xs, ys, sides, k, text);
+        let n = report::put_part(told, knots, xs, ys, sides, k, text);
         written = write_part(out, job, k, &text[..n]);
     }
     written

@@ -23,10 +23,13 @@ abbrev pub handed_over : ℕ → Lists → Lists → Lists
 handed_over number result before =
     lists (after number result.knots before.knots) (after number result.xs before.xs) (after number result.ys before.ys)
 
--- a call that comes to a number and a curve, by cases: its answer and the lent lists follow from these two
-pub record HandsOut {A : Type 0} (ComesTo : ℕ → Lists → Type 0) (value : Lists → A) (before : Lists) (answer : Result A Refusal) (now : Lists) : Type 0 where
+-- a call that comes to a number and a curve, by cases: the lent lists follow from these two, and its answer is one that `Says` gives them
+pub record HandsOutBy {A : Type 0} (ComesTo : ℕ → Lists → Type 0) (Says : ℕ → Lists → A → Type 0) (before : Lists) (answer : A) (now : Lists) : Type 0 where
   pub number : ℕ
   pub result : Lists
   pub comes_to : ComesTo number result
-  pub answers : Answers number (value result) answer
+  pub answers : Says number result answer
   pub hands : now ≡ handed_over number result before
+
+abbrev pub HandsOut : {A : Type 0} → (ℕ → Lists → Type 0) → (Lists → A) → Lists → Result A Refusal → Lists → Type 0  -- the same of a call that answers a result
+HandsOut ComesTo value before answer now = HandsOutBy ComesTo (λ number d a. Answers number (value d) a) before answer now

@@ -1,10 +1,11 @@
 -- Handing a curve out, in sentences (heading "Numbers of refusal": row 15, and what three lent lists hold afterwards).
 use Rattle.std.specs.Prelude.{true, List, Result, Ok, ◌⊎◌, ◌↔◌, ◌≡◌, ℕ, ◌≤◌, ◌<◌, ℤ, length}
 use Rattle.refusal.specs.Answers.{number_in}
+use Rattle.refusal.specs.Judging.{answered}
 use Rattle.refusal.specs.declared.Refusal.{Refusal}
 use Rattle.lent.specs.Sentences.{ResultThenRest}
 use Rattle.curve.specs.Lists.{Lists, lists}
-use Rattle.curve.specs.HandingOver.{room_for, room_number, handed_over, HandsOut}
+use Rattle.curve.specs.HandingOver.{room_for, room_number, handed_over, HandsOutBy, HandsOut}
 
 -- three lists go together in this order: knots, x, y
 abbrev pub KnotsThenXThenY : Type 0
@@ -43,13 +44,28 @@ abbrev pub RefusalHandsNothing : Type 0
 RefusalHandsNothing = (number : ℕ) (result before : Lists) → 0 < number → handed_over number result before ≡ before
 
 -- a call by cases ends in one of two ways: it did its work, with a curve at which it arrived and which the lists hold; or it is refused, with its
--- number, and the lists are as they were
-abbrev pub DoneOrRefused : {A : Type 0} → (ℕ → Lists → Type 0) → (Lists → A) → Lists → Result A Refusal → Lists → Type 0
+-- number, and the lists are as they were. `Done` tells what it answers after its work, `Refused` what it answers where it is refused
+abbrev pub DoneOrRefusedBy : {A : Type 0} → (ℕ → Lists → Type 0) → (Lists → A → Type 0) → (ℕ → A → Type 0) → Lists → A → Lists → Type 0
+DoneOrRefusedBy ComesTo Done Refused before answer now =
+    ((d : Lists) × ComesTo 0 d × Done d answer × (now ≡ handed_over 0 d before))
+    ⊎ ((number : ℕ) × (d : Lists) × ComesTo number d × (0 < number) × Refused number answer × (now ≡ before))
+
+abbrev pub DoneOrRefused : {A : Type 0} → (ℕ → Lists → Type 0) → (Lists → A) → Lists → Result A Refusal → Lists → Type 0  -- the same of a call that answers a result
 DoneOrRefused ComesTo value before answer now =
-    ((d : Lists) × ComesTo 0 d × (answer ≡ Ok (value d)) × (now ≡ handed_over 0 d before))
-    ⊎ ((number : ℕ) × (d : Lists) × ComesTo number d × (0 < number) × (number_in answer ≡ number) × (now ≡ before))
+    DoneOrRefusedBy ComesTo (λ d a. a ≡ Ok (value d)) (λ number a. number_in a ≡ number) before answer now
 
 abbrev pub CallsEndSo : Type 0 → Type 1
 CallsEndSo A =
     (ComesTo : ℕ → Lists → Type 0) (value : Lists → A) (before : Lists) (answer : Result A Refusal) (now : Lists)
     → HandsOut ComesTo value before answer now ↔ DoneOrRefused ComesTo value before answer now
+
+-- answers of any kind, one for each curve and one for each number of a refusal
+abbrev pub AnsweredBy : {A : Type 0} → (Lists → A) → (ℕ → A) → ℕ → Lists → A → Type 0
+AnsweredBy done refused number d answer = answer ≡ answered done refused number d
+
+-- a call that answers by them ends so too
+abbrev pub AnyCallEndsSo : Type 0 → Type 1
+AnyCallEndsSo A =
+    (ComesTo : ℕ → Lists → Type 0) (done : Lists → A) (refused : ℕ → A) (before : Lists) (answer : A) (now : Lists)
+    → HandsOutBy ComesTo (AnsweredBy done refused) before answer now
+    ↔ DoneOrRefusedBy ComesTo (λ d a. a ≡ done d) (λ number a. a ≡ refused number) before answer now

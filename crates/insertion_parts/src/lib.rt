@@ -62,6 +62,43 @@ pub fn stands(times: usize, knots: &[u16], v: u16, at: usize) -> bool
     knots[at - times] == v
 }
 
+// What stands above the line of Q_j.
+pub fn weighted_sum_at(m: usize, knots: &[u16], ps: &[i32], v: u16, j: usize) -> i64
+    requires { Weighed m knots.now (length ps.now) v j }
+    ensures answer { result ≡ weighted_sum m knots.now ps.now v j }
+{
+    let low = knots[j];
+    let high = knots[j + m];
+    weighted_sum(v - low, ps[j], high - v, ps[j - 1])
+}
+
+// What stands below the line of Q_j.
+pub fn weight_at(m: usize, knots: &[u16], j: usize) -> u16
+    requires m_in_bounds { j + m < length knots.now }
+    requires j_bound { get_or knots.now j 0 < get_or knots.now (j + m) 0 }
+    ensures answer { pos result ≡ weight m knots.now j }
+    ensures above { 0 < result }
+{
+    knots[j + m] - knots[j]
+}
+
+// Whether Q_j is whole, for a j from i-m+1 to i.
+pub fn is_whole_at(m: usize, knots: &[u16], ps: &[i32], v: u16, j: usize) -> bool
+    requires { Weighed m knots.now (length ps.now) v j }
+    ensures answer { result ≡ divides (weight m knots.now j) (weighted_sum m knots.now ps.now v j) }
+{
+    is_multiple(weighted_sum_at(m, knots, ps, v, j), weight_at(m, knots, j))
+}
+
+// Q_j, for a j from i-m+1 to i.
+pub fn quotient_at(m: usize, knots: &[u16], ps: &[i32], v: u16, j: usize) -> i32
+    requires insertable { Insertable m knots.now ps.now v }
+    requires weighed { Weighed m knots.now (length ps.now) v j }
+    ensures answer { result ≡ quot_z (weighted_sum m knots.now ps.now v j) (weight m knots.now j) }
+{
+    quotient(weighted_sum_at(m, knots, ps, v, j), weight_at(m, knots, j))
+}
+
 // The knots with v among them, behind the first `at` of them, written to `out`.
 // Not inlined: its loop would cost the export stack while all lists are at hand.
 #[inline(never)]
@@ -88,53 +125,16 @@ pub struct Inserting<'a> {
 }
 
 impl Inserting<'_> {
-    // What stands above the line of Q_j.
-    fn weighted_sum_at(self, j: usize) -> i64
-        requires { Weighed self.degree self.knots.now (length self.ps.now) self.v j }
-        ensures answer { result ≡ weighted_sum self.entry.degree self.entry.knots.now self.entry.ps.now self.entry.v j }
-    {
-        let low = self.knots[j];
-        let high = self.knots[j + self.degree];
-        weighted_sum(self.v - low, self.ps[j], high - self.v, self.ps[j - 1])
-    }
-
-    // What stands below the line of Q_j.
-    fn weight_at(self, j: usize) -> u16
-        requires { Weighed self.degree self.knots.now (length self.ps.now) self.v j }
-        ensures answer { pos result ≡ weight self.entry.degree self.entry.knots.now j }
-        ensures above { 0 < result }
-    {
-        self.knots[j + self.degree] - self.knots[j]
-    }
-
-    // Whether Q_j is whole, for a j from i-m+1 to i.
-    fn is_whole_at(self, j: usize) -> bool
-        requires { Weighed self.degree self.knots.now (length self.ps.now) self.v j }
-        ensures answer { result ≡ divides (weight self.entry.degree self.entry.knots.now j)
-            (weighted_sum self.entry.degree self.entry.knots.now self.entry.ps.now self.entry.v j) }
-    {
-        is_multiple(self.weighted_sum_at(j), self.weight_at(j))
-    }
-
     // Whether every Q is whole.
     pub fn whole_points(self) -> bool
         ensures answer { result ≡ whole_points self.entry.degree self.entry.knots.now self.entry.ps.now self.entry.v }
     {
         for j in self.span + 1 - self.degree..self.span + 1 {
-            if !self.is_whole_at(j) {
+            if !is_whole_at(self.degree, self.knots, self.ps, self.v, j) {
                 return false;
             }
         }
         true
-    }
-
-    // Q_j, for a j from i-m+1 to i.
-    fn quotient_at(self, j: usize) -> i32
-        requires { Weighed self.degree self.knots.now (length self.ps.now) self.v j }
-        ensures answer { result ≡ quot_z (weighted_sum self.entry.degree self.entry.knots.now self.entry.ps.now self.entry.v j)
-            (weight self.entry.degree self.entry.knots.now j) }
-    {
-        quotient(self.weighted_sum_at(j), self.weight_at(j))
     }
 
     // All of Q, written to `out`: the points in front of the quotients, the quotients, and the points behind them.
@@ -149,7 +149,7 @@ impl Inserting<'_> {
         copying::copy_into(&ps[..front], out);
         let behind = self.span + 1;
         for j in front..behind {
-            out[j] = self.quotient_at(j);
+            out[j] = quotient_at(self.degree, self.knots, self.ps, self.v, j);
         }
         copying::copy_into(&ps[behind - 1..], &mut out[behind..]);
     }

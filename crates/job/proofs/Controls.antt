@@ -1,5 +1,5 @@
 -- Closed cases: a job byte by byte; the worked job, curve A with three clamps (heading "Worked by hand"), and the same with its end cut off.
-use Rattle.std.specs.Prelude.{Ok, Err}
+use Rattle.std.specs.Prelude.{Result, Ok, Err}
 use mathlib.Core.Path.{◌≡◌, refl}
 use mathlib.Core.List.{List, [], ◌∷◌, ◌++◌}
 use lib.IntN.{pos}
@@ -13,7 +13,7 @@ use Rattle.format.specs.Format.{form1, record_bytes}
 use Rattle.format.proofs.Controls.{curve_a, line}
 use Rattle.taken_field.specs.Taking.{ended_at, tag_at, length_ok, field_at}
 use Rattle.layout.specs.Judging.{record_layout}
-use Rattle.fault.specs.Verdict.{judged, broken}
+use Rattle.fault.specs.Verdict.{Verdict, judged, broken}
 use Rattle.cutter.specs.Radius.{radius_field}
 use Rattle.clamps.specs.Clamp.{Clamp, clamp_fields, clamps_ok}
 use Rattle.clamps.specs.Tail.{clamps_from}
@@ -24,6 +24,9 @@ use Rattle.fault.specs.Fault.{Fault}
 use Rattle.fault.proofs.FirstFieldLaws.{octets-by}
 use Rattle.job.specs.JobJudging.{sound, behind_record, job_layout}
 use Rattle.job.specs.JobReading.{job_number, JobAnswers}
+use Rattle.job.specs.declared.Job.{Job}
+use Rattle.stored_check.proofs.ToldLaws.{tells_one}
+use Rattle.taken_field.specs.declared.Failure.{Failure}
 use Rattle.refusal.specs.declared.Refusal.TheVariants.{Rectangle, Tag}
 use Rattle.taken_field.specs.declared.Failure.TheVariants.{Broken, Refused}
 
@@ -96,10 +99,17 @@ numbers : job_number 1 (segment 262145) 4097 crossed (segment 0) 0 ∷ job_numbe
 unfolding job_number enough clamps_ok rectangle_ok axis_ok radius_ok two checked_then degree_ok point_count_ok knot_count_ok rises_from knot_order_ok ends_ok occurrences repeats_most repeats_within repeats_ok on_grid all_on_grid range_ok
 numbers = refl
 
-read-or-refused : JobAnswers (judged 0) 3 4 150 2 (Ok (record { degree = 3; points = 4; radius = 150; clamps = 2 }))
-    × JobAnswers (judged 14) 3 4 150 2 (Err (Refused Rectangle))
-    × JobAnswers (broken 19 61) 3 4 150 2 (Err (Broken (record { refusal = Tag; place = 61 })))
-read-or-refused = ((refl, refl), (refl, tt), (refl, tt))
+-- a verdict on four points of degree 3, a radius of 150 and two clamps is told by this answer, and by no other
+abbrev Reads : Verdict → Result Job Failure → Type 0
+Reads verdict answer = JobAnswers verdict 3 4 150 2 answer × ((other : Result Job Failure) → JobAnswers verdict 3 4 150 2 other → other ≡ answer)
+
+reads : (verdict : Verdict) (answer : Result Job Failure) → JobAnswers verdict 3 4 150 2 answer → Reads verdict answer
+reads verdict answer h = (h, λ other k. tells_one verdict (record { degree = 3; points = 4; radius = 150; clamps = 2 }) other answer k h)
+
+read-or-refused : Reads (judged 0) (Ok (record { degree = 3; points = 4; radius = 150; clamps = 2 }))
+    × Reads (judged 14) (Err (Refused Rectangle))
+    × Reads (broken 19 61) (Err (Broken (record { refusal = Tag; place = 61 })))
+read-or-refused = (reads _ _ (refl, refl), reads _ (Err (Refused Rectangle)) (refl, tt), reads _ (Err (Broken (record { refusal = Tag; place = 61 }))) (refl, tt))
 
 -- the leftmost fault of the worked job with its end cut off, and with a clamp's tag behind its record
 cut-told : Fault jobs (take 122 job_a) 16 122

@@ -9,7 +9,7 @@ use Rattle.job.specs.JobReading.{JobRead}
 use Rattle.taken_field.specs.declared.Failure.{Failure}
 use Rattle.job.specs.declared.Job.{Job}
 use Rattle.clamp_lines.specs.Places.{text_most}
-use Rattle.report.specs.Part.{part_put}
+use Rattle.report.specs.Part.{told, part_put}
 use Rattle.job_text.specs.Text.{PartOf, joined, TextOf}
 
 -- lists with places for the longest job
@@ -30,13 +30,13 @@ pub record ReadInPlaces (bytes : List ℕ) (answer : Result Job Failure) (now : 
 abbrev pub PartsAreTheText : Type 0
 PartsAreTheText =
     (bytes : List ℕ) (answer : Result Job Failure) (now : Lists) (sides : List ℤ) (k places : ℕ)
-    → ReadInPlaces bytes answer now sides → text_most ≤ places → PartOf bytes k (part_put answer now sides k places)
+    → ReadInPlaces bytes answer now sides → text_most ≤ places → PartOf bytes k (part_put (told answer) now sides k places)
 
 -- so parts 0 to 64 in a row are the whole text
 abbrev pub WrittenIsText : Type 0
 WrittenIsText =
     (bytes : List ℕ) (answer : Result Job Failure) (now : Lists) (sides : List ℤ) (places : ℕ)
-    → ReadInPlaces bytes answer now sides → text_most ≤ places → TextOf bytes (joined (λ k. part_put answer now sides k places) (clamps_most + 1))
+    → ReadInPlaces bytes answer now sides → text_most ≤ places → TextOf bytes (joined (λ k. part_put (told answer) now sides k places) (clamps_most + 1))
 
 -- the text of bytes that are no job is one line, with the number and the place of their leftmost fault
 abbrev pub BrokenIsOneLine : Type 0

@@ -8,3 +8,8 @@ mod points;
 pub use knots::write_knots;
 pub use meeting::Meeting;
 pub use points::write_points;
+
+// How often an inner parameter stands where the meeting points drop out.
+pub const INNER_TWICE: usize = 2;
+// How often it stands where the meeting points stay.
+pub const INNER_THRICE: usize = 3;

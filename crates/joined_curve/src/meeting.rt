@@ -1,6 +1,8 @@
 // The two ways in which a joined curve passes a spline point.
 ghost use Rattle.std.specs.Prelude.{◌≡◌};
 
+use crate::{INNER_THRICE, INNER_TWICE};
+
 // What becomes of the points where pieces meet, as control points.
 #[derive(Clone, Copy, PartialEq, Eq, Debug)]
 pub enum Meeting {
@@ -16,8 +18,8 @@ impl Meeting {
         ensures answer { result ≡ inner_of self }
     {
         match self {
-            Meeting::LeftOut => 2,
-            Meeting::Kept => 3,
+            Meeting::LeftOut => INNER_TWICE,
+            Meeting::Kept => INNER_THRICE,
         }
     }
 }

@@ -1,13 +1,14 @@
 -- Closed cases, worked by hand: each row of joining once, in its order, and each limit on both sides (heading "Numbers of refusal").
 use mathlib.Core.Bool.{true, false}
 use mathlib.Core.List.{[], ◌∷◌}
-use mathlib.Core.Path.{◌≡◌, refl}
+use mathlib.Core.Path.{◌≡◌, refl, sym, ◌∙◌}
 use Prim.Native.Nat.{ℕ}
 use lib.IntN.{ℤ, pos, negsuc}
 use lib.ListN.{replicate}
-use Rattle.std.specs.Prelude.{Ok, Err}
-use Rattle.refusal.specs.Answers.{Answers}
+use Rattle.std.specs.Prelude.{Result, Ok, Err}
+use Rattle.refusal.specs.declared.Refusal.{Refusal}
 use Rattle.refusal.specs.declared.Refusal.TheVariants.{JoinedRange}
+use Rattle.refusal.proofs.AnswerLaws.{answers-one}
 use Rattle.signed.specs.Division.{divides}
 use Rattle.curve.specs.Lists.{Lists, lists}
 use Rattle.curve.specs.HandingOver.{enough}
@@ -15,7 +16,7 @@ use Rattle.grid.specs.Rows.{on_grid, all_on_grid, range_ok}
 use Rattle.spline_pieces.specs.Pieces.{pieces, pieces_from, piece_at, piece_of, third, third_whole, every_piece, piece_on_grid}
 use Rattle.joined_curve.specs.Curve.{inner_twice, inner_thrice, knots_after, joined_knots, points_after, joined_points}
 use Rattle.joining.specs.SplinePoints.{SplinePoints, spline_points, spline_count_ok, counts_agree, rises_strictly_from, spline_points_ok}
-use Rattle.joining.specs.Answer.{joinable_then, join_number}
+use Rattle.joining.specs.Answer.{joinable_then, join_number, JoinOutcome}
 
 -- 2 to 342 spline points
 counts : spline_count_ok 1 ∷ spline_count_ok 2 ∷ spline_count_ok 342 ∷ spline_count_ok 343 ∷ [] ≡ false ∷ true ∷ true ∷ false ∷ []
@@ -73,6 +74,23 @@ either-answers : join_number inner_twice (three (pos 12) (pos 1)) (places 10 6 6
 unfolding joinable_then spline_points_ok spline_count_ok counts_agree rises_strictly_from range_ok all_on_grid on_grid pieces pieces_from piece_at piece_of third third_whole divides every_piece piece_on_grid enough joined_knots knots_after joined_points points_after
 either-answers = refl
 
--- the answer by cases
-joined-or-refused : Answers {A = ℕ} 0 4 (Ok 4) × Answers {A = ℕ} 18 4 (Err JoinedRange)
-joined-or-refused = ((refl, refl), (refl, tt))
+-- joining with room for one piece has this answer, leaves this in the lent lists, and ends in no other way
+abbrev Joins : SplinePoints → Result ℕ Refusal → Lists → Type 0
+Joins s answer now =
+    JoinOutcome inner_thrice s (room 4) answer now
+    × ((other : Result ℕ Refusal) (then : Lists) → JoinOutcome inner_thrice s (room 4) other then → (other ≡ answer) × (then ≡ now))
+
+joins : (s : SplinePoints) (answer : Result ℕ Refusal) (now : Lists) → JoinOutcome inner_thrice s (room 4) answer now → Joins s answer now
+joins s answer now o = (o, λ other then p. (answers-one _ _ other answer p.answers o.answers, p.hands ∙ sym o.hands))
+
+-- the one piece from (0,0) to (12,0): 4 points; 18 where a point between would be off the grid
+straight : Lists
+straight =
+    lists (0 ∷ 0 ∷ 0 ∷ 0 ∷ 12 ∷ 12 ∷ 12 ∷ 12 ∷ []) (pos 0 ∷ pos 4 ∷ pos 8 ∷ pos 12 ∷ []) (pos 0 ∷ pos 0 ∷ pos 0 ∷ pos 0 ∷ [])
+
+joined-or-refused : Joins (from 12 (pos 0) (pos 1)) (Ok 4) straight × Joins (from 3 (pos 262144) (pos 1)) (Err JoinedRange) (room 4)
+unfolding joinable_then spline_points_ok spline_count_ok counts_agree rises_strictly_from range_ok all_on_grid on_grid pieces pieces_from piece_at piece_of third third_whole divides every_piece piece_on_grid enough joined_knots knots_after joined_points points_after straight
+joined-or-refused = (
+  joins (from 12 (pos 0) (pos 1)) (Ok 4) straight (record { answers = (refl, refl); hands = refl }),
+  joins (from 3 (pos 262144) (pos 1)) (Err JoinedRange) (room 4) (record { answers = (refl, tt); hands = refl }),
+)

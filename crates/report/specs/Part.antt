@@ -1,6 +1,6 @@
--- Part k of the text (heading "`clampcheck`"), from what the reader answered and left in the lists: part 0 is the line on the curve or on the
+-- Part k of the text (heading "`clampcheck`"), from an answer and what was left in the lists: part 0 is the line on the curve or on the
 -- refusal, part k from 1 on all lines on clamp k. Past the last clamp, and past a refusal's line, a part is empty.
-use Rattle.std.specs.Prelude.{cond, List, [], Result, Ok, Err, ℕ, zero, suc, ◌+◌, leb, ℤ, length, take}
+use Rattle.std.specs.Prelude.{cond, List, [], Option, Some, None, Result, Ok, Err, ℕ, zero, suc, ◌+◌, leb, ℤ, length, take}
 use Rattle.curve.specs.Lists.{Lists, lists}
 use Rattle.curve.specs.HandingOver.{enough}
 use Rattle.grid.specs.Limits.{job_most}
@@ -12,6 +12,17 @@ use Rattle.refusal.specs.Answers.{number_of}
 use Rattle.taken_field.specs.declared.Failure.{Failure}
 use Rattle.taken_field.specs.declared.Failure.TheVariants.{Broken, Refused}
 use Rattle.job.specs.declared.Job.{Job}
+use Rattle.report.specs.declared.Fault.{Fault}
+
+-- what is told of a reader's failure: its number, and the place where the bytes break
+abbrev pub fault_of : Failure → Fault
+fault_of (Broken broken) = record { number = number_of broken.refusal; place = Some broken.place }
+fault_of (Refused refusal) = record { number = number_of refusal; place = None }
+
+-- and of its answer
+abbrev pub told : Result Job Failure → Result Job Fault
+told (Ok job) = Ok job
+told (Err failure) = Err (fault_of failure)
 
 -- the line on a curve: degree, points, non-empty spans
 abbrev pub curve_text : ℕ → Lists → List ℕ
@@ -26,6 +37,11 @@ refused_part number (suc k) = []
 unfoldable pub broken_part : ℕ → ℕ → ℕ → List ℕ
 broken_part number place zero = cond (leb place job_most) (broken_line number place) []
 broken_part number place (suc k) = []
+
+-- part k of a file with no curve to tell of: where a place is known its bytes break, and where none is they are refused
+abbrev pub fault_part : ℕ → Option ℕ → ℕ → List ℕ
+fault_part number (Some place) k = broken_part number place k
+fault_part number None k = refused_part number k
 
 -- part k of a curve with a cutter's radius and `count` clamps; in the text they are numbered from 1
 unfoldable pub curve_part : ℕ → Lists → ℕ → ℕ → List ℤ → ℕ → List ℕ
@@ -43,12 +59,11 @@ job_part m points radius count now sides k =
     (where_checked m (curve_read m points now) (curve_part m (curve_read m points now) radius count sides k))
     []
 
--- part k by the reader's answer
-abbrev pub answer_part : Result Job Failure → Lists → List ℤ → ℕ → List ℕ
+-- part k by an answer with any number
+abbrev pub answer_part : Result Job Fault → Lists → List ℤ → ℕ → List ℕ
 answer_part (Ok job) now sides k = job_part job.degree job.points job.radius job.clamps now sides k
-answer_part (Err (Broken fault)) now sides k = broken_part (number_of fault.refusal) fault.place k
-answer_part (Err (Refused refusal)) now sides k = refused_part (number_of refusal) k
+answer_part (Err fault) now sides k = fault_part fault.number fault.place k
 
 -- what a list with so many places receives of it: all, where it has places for the longest part, else nothing
-abbrev pub part_put : Result Job Failure → Lists → List ℤ → ℕ → ℕ → List ℕ
+abbrev pub part_put : Result Job Fault → Lists → List ℤ → ℕ → ℕ → List ℕ
 part_put answer now sides k places = cond (leb text_most places) (answer_part answer now sides k) []

@@ -59,7 +59,8 @@ pub job-reads-back : JobReadsBack
 job-reads-back m c radius cs s before sides_before answer now sides_now read =
     let w : IsJob form1 (job_bytes form1 m c radius cs) = record { m = m; c = c; radius = radius; cs = cs; storable = s; same = refl } in
     let same = one-outcome sides_before read.comes_to (is_job w) in
-    (same.0 answer read.answers, read.hands ∙ same.1, read.clamps_now ∙ same.2)
+    let told = same.0 answer read.answers in
+    (told, λ other says. tells_one _ _ other answer says told, read.hands ∙ same.1, read.clamps_now ∙ same.2)
 
 -- what holds of 0 to 15 and of 22 holds of a job's number
 pub number-all : (P : ℕ → Type 0) → ((n : ℕ) → n ≤ room_refused → P n) → P radius_refused → (m : ℕ) (c : Lists) (radius : ℕ) (cs : List Clamp) (before : Lists) (places : ℕ)

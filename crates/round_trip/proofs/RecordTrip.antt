@@ -11,7 +11,7 @@ use lib.ListN.{length}
 use Rattle.lent.specs.Lent.{over, after}
 use Rattle.refusal.specs.Numbers.{room_refused}
 use Rattle.refusal.specs.declared.Refusal.{Refusal}
-use Rattle.refusal.proofs.AnswerLaws.{answers-value}
+use Rattle.refusal.proofs.AnswerLaws.{answers-one}
 use Rattle.taken_field.specs.declared.Failure.{Failure}
 use Rattle.stored_check.proofs.ToldLaws.{judged_apart, judged_number, broken_number, tells_one, tells_value, tells_other}
 use Rattle.refusal.proofs.JudgingLaws.{unless-all}
@@ -100,10 +100,13 @@ module _ (bytes : List ℕ) (before : Lists) (m n : ℕ) (now : Lists) where
 
 -- writing a curve that passes, where there is room
 written : {n : ℕ} (m : ℕ) (c : Lists) (bytes out : List ℕ) → Stored bytes m n c → length bytes ≤ length out
-    → WriteAnswers m c out (Ok (length bytes)) × (after (write_number m c out) (record_bytes form1 m c) out ≡ over bytes out)
+    → WriteAnswers m c out (Ok (length bytes))
+    × ((answer : Result ℕ Refusal) → WriteAnswers m c out answer → answer ≡ Ok (length bytes))
+    × (after (write_number m c out) (record_bytes form1 m c) out ≡ over bytes out)
 written m c bytes out s room =
     let zero : write_number m c out ≡ 0 = write_done m c out s.passes (rw s.same at room) in
-    ((sym zero, ap (λ (l : List ℕ). length l) s.same), rw (zero, s.same))
+    let told : WriteAnswers m c out (Ok (length bytes)) = (sym zero, ap (λ (l : List ℕ). length l) s.same) in
+    (told, λ answer says. answers-one _ _ answer (Ok (length bytes)) says told, rw (zero, s.same))
 
 pub read-writes-back : ReadWritesBack
 read-writes-back bytes before m n now read out room = written m (front_of m n now) bytes out (read-stored bytes before m n now read) room

@@ -35,11 +35,12 @@ WrittenReadsBack =
     (m : ℕ) (c : Lists) → Passes m c.knots c.xs c.ys → (before : Lists) (answer : Result StoredCurve Failure) (now : Lists) → room_for c before ≡ true
     → RecordRead (record_bytes form1 m c) before answer now → (answer ≡ read_as m (length c.xs)) × (now ≡ handed_over accepted c before)
 
--- writing a curve that was read gives the bytes that it was read from, in any list that has room
+-- writing a curve that was read gives the bytes that it was read from, in any list that has room, and answers how many they are and nothing else
 abbrev pub ReadWritesBack : Type 0
 ReadWritesBack =
     (bytes : List ℕ) (before : Lists) (m n : ℕ) (now : Lists) → RecordRead bytes before (read_as m n) now → (out : List ℕ) → length bytes ≤ length out
     → WriteAnswers m (front_of m n now) out (Ok (length bytes))
+    × ((answer : Result ℕ Refusal) → WriteAnswers m (front_of m n now) out answer → answer ≡ Ok (length bytes))
     × (after (write_number m (front_of m n now) out) (record_bytes form1 m (front_of m n now)) out ≡ over bytes out)
 
 -- bytes that read to one curve are equal
@@ -67,13 +68,14 @@ RecordsShort = (bytes : List ℕ) → IsRecord form1 bytes → length bytes ≤ 
 abbrev pub JobsShort : Type 0
 JobsShort = (bytes : List ℕ) → IsJob form1 bytes → length bytes ≤ job_most
 
--- reading the job of some lists, radius and clamps reads these
+-- reading the job of some lists, radius and clamps reads these, and has no other answer
 abbrev pub JobReadsBack : Type 0
 JobReadsBack =
     (m : ℕ) (c : Lists) (radius : ℕ) (cs : List Clamp) → StorableJob form1 m c radius cs
     → (before : Lists) (sides_before : List ℤ) (answer : Result Job Failure) (now : Lists) (sides_now : List ℤ)
     → JobRead (job_bytes form1 m c radius cs) before sides_before answer now sides_now
     → JobAnswers (judged (job_number m c radius cs before (length sides_before))) m (length c.xs) radius (length cs) answer
+    × ((other : Result Job Failure) → JobAnswers (judged (job_number m c radius cs before (length sides_before))) m (length c.xs) radius (length cs) other → other ≡ answer)
     × (now ≡ handed_over (job_number m c radius cs before (length sides_before)) c before)
     × (sides_now ≡ after (job_number m c radius cs before (length sides_before)) (all_sides cs) sides_before)
 

@@ -11,3 +11,10 @@ number_in bytes k x y = check_number (degree_in bytes) (curve_in bytes k x y).kn
 -- lists for so many points, and for four knots more, hold fields of k, x and y bytes
 abbrev pub HeldBy : ℕ → ℕ → ℕ → ℕ → Type 0
 HeldBy points k x y = enough (k / 2) (x / 4) (y / 4) (points + 4) points points ≡ true
+
+-- the points that short and middle lists hold
+abbrev pub short_points : ℕ
+short_points = 16
+
+abbrev pub middle_points : ℕ
+middle_points = 64

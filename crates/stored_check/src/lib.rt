@@ -6,7 +6,7 @@ ghost use Rattle.std.specs.Prelude.{true, ◌≡◌, ◌≤◌, ◌+◌, ◌/◌
 ghost use Rattle.grid.specs.Limits.{points_most};
 ghost use Rattle.curve.specs.HandingOver.{enough};
 ghost use Rattle.refusal.specs.Answers.{number_in};
-ghost use Rattle.stored_check.specs.StoredNumber.{number_in as stored_number, HeldBy};
+ghost use Rattle.stored_check.specs.StoredNumber.{number_in as stored_number, HeldBy, short_points, middle_points};
 
 use layout::Layout;
 use refusal::Refusal;
@@ -59,6 +59,24 @@ fn check_within<const K: usize, const N: usize>(stored: Stored<'_>) -> Result<()
     check_in(stored, &mut ts, &mut us, &mut ws)
 }
 
+// The check through short lists.
+fn check_short(stored: Stored<'_>) -> Result<(), Refusal>
+    requires held_by { HeldBy short_points stored.layout.knots stored.layout.xs stored.layout.ys }
+    ensures answer { number_in result
+        ≡ stored_number stored.entry.bytes.now stored.entry.layout.knots stored.entry.layout.xs stored.entry.layout.ys }
+{
+    check_within::<SHORT_KNOTS, SHORT>(stored)
+}
+
+// The check through middle lists.
+fn check_middle(stored: Stored<'_>) -> Result<(), Refusal>
+    requires held_by { HeldBy middle_points stored.layout.knots stored.layout.xs stored.layout.ys }
+    ensures answer { number_in result
+        ≡ stored_number stored.entry.bytes.now stored.entry.layout.knots stored.entry.layout.xs stored.entry.layout.ys }
+{
+    check_within::<MIDDLE_KNOTS, MIDDLE>(stored)
+}
+
 // The check of a stored curve: nothing, or the refusal with the lowest of the numbers 1 to 7 that applies.
 pub fn curve_number(stored: Stored<'_>) -> Result<(), Refusal>
     ensures answer { number_in result
@@ -68,10 +86,10 @@ pub fn curve_number(stored: Stored<'_>) -> Result<(), Refusal>
     let xs = stored.layout.xs / 4;
     let ys = stored.layout.ys / 4;
     if curve::room_for(knots, xs, ys, SHORT_KNOTS, SHORT, SHORT) {
-        return check_within::<SHORT_KNOTS, SHORT>(stored);
+        return check_short(stored);
     }
     if curve::room_for(knots, xs, ys, MIDDLE_KNOTS, MIDDLE, MIDDLE) {
-        return check_within::<MIDDLE_KNOTS, MIDDLE>(stored);
+        return check_middle(stored);
     }
     check_within::<LONGEST_KNOTS, LONGEST>(stored)
 }

@@ -6,7 +6,13 @@ use carrying::Axis;
 use point_at::PointAnswer;
 use refusal::Refusal;
 
-// The 64 bits of a coordinate. What cannot be written is lost, here and below.
+// A word and a number behind it, a write for each. What cannot be written is lost, here and below.
+fn numbered(out: &impl Print, word: &str, number: u64) {
+    let _ = print!(out; "{word}");
+    let _ = print!(out; "{number}");
+}
+
+// The 64 bits of a coordinate.
 fn bits(out: &impl Print, x: f64) {
     if x.is_nan() {
         let _ = print!(out; "nan");
@@ -19,7 +25,8 @@ fn bits(out: &impl Print, x: f64) {
 // Coordinates of the worked curves.
 fn coordinates(out: &impl Print, zs: &[i32]) {
     for z in zs {
-        let _ = print!(out; " {z}");
+        let _ = print!(out; " ");
+        let _ = print!(out; "{z}");
     }
 }
 
@@ -34,9 +41,7 @@ fn place(out: &impl Print, x: f64, y: f64) {
 fn point(out: &impl Print, degree: u32, knots: &[u16], xs: &[i32], ys: &[i32], t: u32) {
     match point_at::point_at(degree, knots, xs, ys, t) {
         PointAnswer::At(p) => place(out, p.x, p.y),
-        PointAnswer::Refused(number) => {
-            let _ = print!(out; " refused {number}");
-        }
+        PointAnswer::Refused(number) => numbered(out, " refused ", u64::from(number)),
     }
 }
 
@@ -53,19 +58,15 @@ fn carried<'a>(
     let mut refusal = 99;
     let part = carrying::carrying(degree, knots, xs, ys, t, axis, &mut refusal);
     coordinates(out, part);
-    let _ = print!(out; ", refusal {refusal}");
+    numbered(out, ", refusal ", u64::from(refusal));
 }
 
 // A Result: the number of points, or the refusal with its number.
 fn answer(out: &impl Print, answer: Result<usize, Refusal>) {
     match answer {
-        Ok(points) => {
-            let _ = print!(out; " points {points}");
-        }
-        Err(refusal) => {
-            let number = u32::from(refusal);
-            let _ = print!(out; " refused {number}");
-        }
+        // `as`: no From leads from usize to u64.
+        Ok(points) => numbered(out, " points ", points as u64),
+        Err(refusal) => numbered(out, " refused ", u64::from(u32::from(refusal))),
     }
 }
 

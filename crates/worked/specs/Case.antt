@@ -89,6 +89,10 @@ no_places = lists [] [] []
 abbrev pub RefusedBy : ℕ → (Result ℕ Refusal → Type 0) → Type 0
 RefusedBy n EndsSo = (e : Refusal) × (number_of e ≡ n) × EndsSo (Err e)
 
+-- a call ends so with this answer, and with no other
+abbrev pub Only : Result ℕ Refusal → (Result ℕ Refusal → Type 0) → Type 0
+Only answer EndsSo = EndsSo answer × ((other : Result ℕ Refusal) → EndsSo other → other ≡ answer)
+
 -- the call's definition gives the answer, and the lent lists are then the expected ones
 abbrev pub Holds : Case → Type 0
 Holds (point_at m c u a) = answer_of m c.knots c.xs c.ys (argument u) ≡ a
@@ -97,12 +101,12 @@ Holds (carried m c u axis part) =
 Holds (carried_not m c u axis n) =
     (parameter_number m c.knots c.xs c.ys (argument u) ≡ n) × (part_of m c.knots c.xs c.ys (argument u) axis ≡ [])
 Holds (spans_listed m c clamp radius count s) =
-    ListAnswer m c clamp radius (places_of_spans s) (Ok count) × (listed m c clamp radius (places_of_spans s) ≡ s)
+    Only (Ok count) (λ answer. ListAnswer m c clamp radius (places_of_spans s) answer) × (listed m c clamp radius (places_of_spans s) ≡ s)
 Holds (spans_not m c clamp radius n) =
-    RefusedBy n (λ answer. ListAnswer m c clamp radius (span_lists [] []) answer) × (listed m c clamp radius (span_lists [] []) ≡ span_lists [] [])
+    RefusedBy n (λ answer. Only answer (λ other. ListAnswer m c clamp radius (span_lists [] []) other)) × (listed m c clamp radius (span_lists [] []) ≡ span_lists [] [])
 Holds (recorded m c bytes) =
     let places : List ℕ = replicate (length bytes) 0 in
-    WriteAnswers m c places (Ok (length bytes)) × (after (write_number m c places) (record_bytes form1 m c) places ≡ bytes)
+    Only (Ok (length bytes)) (λ answer. WriteAnswers m c places answer) × (after (write_number m c places) (record_bytes form1 m c) places ≡ bytes)
 Holds (compacted m c count d) = CompactOutcome m c (places_of d) (Ok count) d
 Holds (inserted m c v d) = InsertOutcome m c v (places_of d) (Ok (length d.xs)) d
 Holds (inserted_not m c v n) = RefusedBy n (λ answer. InsertOutcome m c v no_places answer no_places)

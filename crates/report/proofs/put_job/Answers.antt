@@ -1,4 +1,4 @@
--- The fronts lie within the lists.
+-- A part of a clamp that does not stand is empty. The fronts lie within the lists.
 use mathlib.Core.Bool.{not}
 use mathlib.Core.Path.{sym, ap}
 use Prim.Native.Nat.{◌+◌, ◌≤◌}
@@ -11,9 +11,13 @@ use Rattle.refusal.proofs.JudgingLaws.{test-failed, test-passed}
 use Rattle.curve.specs.Lists.{lists}
 use Rattle.curve.proofs.RoomLaws.{enough-each}
 use Rattle.clamp_lines.proofs.ClampPartLaws.{put-nothing}
-use Rattle.report.proofs.PartLaws.{short-of-points, no_room, room-checked, room-refused}
+use Rattle.report.proofs.PartLaws.{past-clamps, short-of-points, no_room, room-checked, room-refused}
 use Rattle.report.proofs.put_job.Goals.{Else-not-room_for}
 use Rattle.report.proofs.put_job.Goals as goal
+
+pub returns-then-not-stands-clause-result : goal.returns-then-not-stands-clause-result
+returns-then-not-stands-clause-result c = let a = c.args in let job = a.job in
+    put-nothing a.pen.now.out.now a.pen.now.at (past-clamps job.degree job.points job.radius job.clamps (lists a.knots.now a.xs.now a.ys.now) a.sides.now a.k (omega (arith, c.if-k-gt0.true)) (test-failed (ap not c.if-not-stands.true) c.stands.ensures.answer))
 
 pub returns-then-xs-points-clause-result : goal.returns-then-xs-points-clause-result
 returns-then-xs-points-clause-result c = let a = c.args in let job = a.job in

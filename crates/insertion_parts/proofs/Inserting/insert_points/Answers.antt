@@ -43,9 +43,11 @@ loop-j-init c = (omega arith, omega (arith, c.args.self.insertable.degree), stor
 
 pub quotient_at-requires : goal.quotient_at-requires
 quotient_at-requires c =
-    let a = c.args in
-    span-weighed a.self.degree a.self.knots.now a.self.ps.now a.self.v a.self.insertable c.loop-j.j
-    (omega (arith, c.loop-j.invariant.0, a.self.place)) (omega (arith, c.loop-j-test.true, a.self.place))
+    let a = c.args in record {
+      insertable = a.self.insertable;
+      weighed = span-weighed a.self.degree a.self.knots.now a.self.ps.now a.self.v a.self.insertable c.loop-j.j
+          (omega (arith, c.loop-j.invariant.0, a.self.place)) (omega (arith, c.loop-j-test.true, a.self.place));
+    }
 
 pub bounds-out-j : goal.bounds-out-j
 bounds-out-j c = let a = c.args in

@@ -3,7 +3,7 @@ use native.Mathlib.Omega.{arith}
 use mir.Syntax.{w64}
 use mir.ValLaws.{to_z-of_z}
 use Rattle.insertion.proofs.QuotientLaws.{quotient-within}
-use Rattle.insertion_parts.proofs.Inserting.quotient_at.Goals as goal
+use Rattle.insertion_parts.proofs.quotient_at.Goals as goal
 
 pub quotient-requires : goal.quotient-requires
 quotient-requires c =
@@ -15,5 +15,5 @@ quotient-requires c =
         c.weighted_sum_at.ensures.answer,
         c.weight_at.ensures.answer,
       )
-          (omega (arith, quotient-within a.self.degree a.self.knots.now a.self.ps.now a.self.v a.j s.low s.high a.self.insertable.range));
+          (omega (arith, quotient-within a.m a.knots.now a.ps.now a.v a.j s.weighed.low s.weighed.high s.insertable.range));
     }

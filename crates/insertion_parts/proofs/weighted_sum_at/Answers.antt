@@ -4,7 +4,7 @@ use mir.Syntax.{w32, w64}
 use mir.ValLaws.{to_z-of_z}
 use Rattle.insertion.specs.Insertion.{point_at}
 use Rattle.insertion.proofs.QuotientLaws.{sum-natural}
-use Rattle.insertion_parts.proofs.Inserting.weighted_sum_at.Goals as goal
+use Rattle.insertion_parts.proofs.weighted_sum_at.Goals as goal
 
 pub returns : goal.returns
 returns c = record {
@@ -12,9 +12,9 @@ returns c = record {
       let s = c.requires in
       rw (
         to_z-of_z w64 c.weighted_sum.result (record { sfits = c.weighted_sum.type_inv }),
-        sum-natural a.self.degree a.self.knots.now a.self.ps.now a.self.v a.j s.low s.high,
-        ← to_z-of_z w32 (point_at a.self.ps.now a.j) (record { sfits = c.weighted_sum-arg-1.given }),
-        ← to_z-of_z w32 (point_at a.self.ps.now (a.j - 1)) (record { sfits = c.weighted_sum-arg-2-1.given }),
+        sum-natural a.m a.knots.now a.ps.now a.v a.j s.low s.high,
+        ← to_z-of_z w32 (point_at a.ps.now a.j) (record { sfits = c.weighted_sum-arg-1.given }),
+        ← to_z-of_z w32 (point_at a.ps.now (a.j - 1)) (record { sfits = c.weighted_sum-arg-2-1.given }),
       )
       c.weighted_sum.ensures.answer;
 }

@@ -1,0 +1,2 @@
+-- Laws of judging one field.
+pub mod TakeLaws
